@@ -1,0 +1,135 @@
+//! The cells.
+
+ghost use Rattle.std.specs.Prelude.{◌≡◌, ◌<◌, ◌≤◌, ◌∷◌, [], ℕ, length, IfOk, OnOk, OnErr, Some, None, replicate};
+ghost use Rattle.mt_word.specs.Word.{Fits};
+ghost use Rattle.mt_fault.specs.History.{Read, Write};
+ghost use Rattle.mt_fault.specs.Faulty.{answer, words_after};
+ghost use Rattle.mt_fault.specs.Memory.{Memory, IsSound, after_access, first_words, injection};
+
+use crate::access::{read_word, settle, write_word};
+use crate::fault::{Fault, FaultRefusal};
+use crate::placement::{is_in_range, is_same_word};
+use mt_word::{NoMemory, Width};
+use std::alloc::Global;
+use std::marker::Model;
+
+/// Words of one width, with at most one fault.
+#[derive(Drop)]
+pub struct Cells {
+    width: Width,
+    words: Vec<u64>,
+    fault: Option<Fault>,
+}
+
+impl Model for Cells {
+    ghost use Rattle.mt_fault.specs.Memory.{Memory, IsSound};
+
+    ghost Value = { Memory };
+
+    ghost view = { λ c. record { width = c.width; fault = c.fault; words = c.words.items } };
+
+    ghost invariant = { λ c. IsSound (record { width = c.width; fault = c.fault; words = c.words.items }) };
+}
+
+impl Cells {
+    /// Every word is `initial`, and there is no fault.
+    pub fn new(alloc: Global, width: Width, size: u32, initial: u64) -> Result<Cells, NoMemory>
+        requires some { 1 ≤ size }
+        requires limit { size ≤ 65536 }
+        requires initial { Fits width initial }
+        ensures { IfOk result (λ m. m ≡ record { width = width; fault = None; words = replicate size initial }) }
+    {
+        let Ok(words) = vec![in alloc; initial; size as usize] else {
+            return Err(NoMemory);
+        };
+        Ok(Cells {
+            width,
+            words,
+            fault: None,
+        })
+    }
+
+    /// The width.
+    pub fn width(&self) -> Width
+        ensures width { result ≡ self.now.width }
+        ensures sound { IsSound self.now }
+    {
+        self.width
+    }
+
+    /// One read.
+    pub fn read(&mut self, addr: u32) -> u64
+        requires { addr < length self.old.words }
+        ensures answer { result ≡ answer self.old.fault self.old.words [] addr }
+        ensures after { self.new ≡ after_access self.old (Read addr) }
+        ensures unchanged { self.new ≡ self.old }
+        ensures fits { Fits self.old.width result }
+    {
+        read_word(&self.words, self.width, self.fault, addr)
+    }
+
+    #[tactic(auto, using(crate::proofs::Steps::size_after))]
+    /// One write.
+    pub fn write(&mut self, addr: u32, word: u64)
+        requires addr { addr < length self.old.words }
+        requires word { Fits self.old.width word }
+        ensures after { self.new ≡ after_access self.old (Write addr word) }
+        ensures size { length self.new.words ≡ length self.old.words }
+    {
+        write_word(&mut self.words, self.width, self.fault, addr, word);
+    }
+
+    #[tactic(auto, using(crate::proofs::Steps::size_first))]
+    /// Puts a fault there. After a refusal nothing has changed.
+    pub fn inject(&mut self, fault: Fault) -> Result<(), FaultRefusal>
+        ensures answer { result ≡ injection self.old fault }
+        ensures ok { OnOk result (self.new ≡ record self.old { fault = Some fault; words = first_words fault self.old.words }) }
+        ensures err { OnErr result (self.new ≡ self.old) }
+        ensures size { length self.new.words ≡ length self.old.words }
+    {
+        if !is_in_range(self.width, self.words.len(), fault) {
+            return Err(FaultRefusal::OutOfRange);
+        }
+        if is_same_word(fault) {
+            return Err(FaultRefusal::SameWord);
+        }
+        if self.fault.is_some() {
+            return Err(FaultRefusal::Present);
+        }
+        settle(&mut self.words, self.width, fault);
+        self.fault = Some(fault);
+        Ok(())
+    }
+
+    /// Takes the fault away, if one is there. Stored words stay.
+    pub fn heal(&mut self)
+        ensures { self.new ≡ record self.old { fault = None } }
+    {
+        self.fault = None;
+    }
+}
+
+#[cfg(test)]
+mod tests {
+    use super::*;
+    use crate::fault::Spot;
+    use std::test::Fail;
+
+    #[test]
+    fn a_rise_inverts_the_victim(rt: HostRuntime) -> Result<(), Fail> {
+        let mut cells = Cells::new(rt.alloc(), Width::W8, 4, 0)?;
+        let agg = Spot { word: 1, bit: 0 };
+        let vic = Spot { word: 2, bit: 7 };
+        cells.inject(Fault::Invert {
+            agg,
+            rise: true,
+            vic,
+        })?;
+        cells.write(1, 1);
+        assert_eq!(rt; cells.read(2), 128);
+        cells.write(1, 0);
+        cells.write(1, 255);
+        assert_eq!(rt; cells.read(2), 0);
+        Ok(())
+    }
+}

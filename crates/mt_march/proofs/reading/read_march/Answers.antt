@@ -1,0 +1,22 @@
+use Rattle.std.proofs.Common.{◌≡◌, None, refl, inl, inr, sym, subst, ◌∙◌}
+use Rattle.mt_march.specs.Grammar.{SpellsMarch}
+use Rattle.mt_march.specs.Reading.{rule_broken}
+use Rattle.mt_march.specs.Value.{march_of}
+use Rattle.mt_march.proofs.Places.{place_from_fault, march_from_none}
+use Rattle.mt_march.proofs.Room.{or_else_none}
+use Rattle.mt_march.proofs.reading.read_march.Goals as goal
+
+pub returns-in-Some-clause-err : goal.returns-in-Some-clause-err
+returns-in-Some-clause-err c = inl (refl, place_from_fault c.args.text.now c.in-Some.place (sym c.in-Some.ensures))
+
+pub returns-in-Some-rule_broken-clause-err : goal.returns-in-Some-rule_broken-clause-err
+returns-in-Some-rule_broken-clause-err c =
+    inr ((march_of c.args.text.now, march_from_none c.args.text.now (sym c.spelling_fault.ensures ∙ c.in_default.is)), sym c.rule_broken.ensures ∙ c.in-Some-rule_broken.is)
+
+pub build-requires : goal.build-requires
+unfolding rule_broken
+build-requires c = or_else_none _ _ _ (sym c.rule_broken.ensures ∙ c.in_default-rule_broken.is)
+
+pub returns-clause-ok : goal.returns-clause-ok
+returns-clause-ok c =
+    (subst (SpellsMarch c.args.text.now) (sym c.build.ensures) (march_from_none c.args.text.now (sym c.spelling_fault.ensures ∙ c.in_default.is)), sym c.rule_broken.ensures ∙ c.in_default-rule_broken.is)

@@ -1,0 +1,8 @@
+use Rattle.mt_march.proofs.Canonicals.{canonical_spells, spells_one}
+use Rattle.mt_march.proofs.writing.canonical_law.Goals as goal
+
+pub returns-clause-spells : goal.returns-clause-spells
+returns-clause-spells c = canonical_spells
+
+pub returns-clause-one : goal.returns-clause-one
+returns-clause-one c = spells_one

@@ -1,0 +1,72 @@
+//! Words of a width, and their bits.
+#![tactic(auto)]
+
+ghost use Rattle.std.specs.Prelude.{◌≡◌, ◌≢◌, ◌<◌, ◌^◌, ◌-◌, ◌↔◌, ℕ, IsTrue};
+ghost use Rattle.mt_word.specs.Word.{width_bits, Fits, complement_of, has_bit, put_bit};
+
+/// How many bits a word has.
+#[derive(Clone, Copy, Debug, PartialEq, Eq)]
+pub enum Width {
+    W8,
+    W16,
+    W32,
+}
+
+/// A call found no memory.
+#[derive(Clone, Copy, Debug, PartialEq, Eq)]
+pub struct NoMemory;
+
+/// The number of bits of a word: 8, 16 or 32.
+pub fn bits(width: Width) -> u32
+    ensures { result ≡ width_bits width }
+{
+    match width {
+        Width::W8 => 8,
+        Width::W16 => 16,
+        Width::W32 => 32,
+    }
+}
+
+// The largest word.
+fn mask(width: Width) -> u64
+    ensures { result ≡ 2 ^ width_bits width - 1 }
+{
+    u64::MAX >> (64 - bits(width))
+}
+
+/// Whether the word is one of the width.
+pub fn fits(width: Width, word: u64) -> bool
+    ensures { IsTrue result ↔ Fits width word }
+{
+    word <= mask(width)
+}
+
+/// The complement of a word.
+pub fn flip(width: Width, word: u64) -> u64
+    requires { Fits width word }
+    ensures word { result ≡ complement_of width word }
+    ensures fits { Fits width result }
+{
+    word ^ mask(width)
+}
+
+/// One bit of a word.
+pub fn bit(word: u64, at: u8) -> bool
+    requires { at < 64 }
+    ensures { result ≡ has_bit word at }
+{
+    (word >> at) & 1 == 1
+}
+
+/// The word with that bit set so.
+pub fn with_bit(width: Width, word: u64, at: u8, value: bool) -> u64
+    requires word { Fits width word }
+    requires at { at < width_bits width }
+    ensures value { result ≡ put_bit word at value }
+    ensures here { has_bit result at ≡ value }
+    ensures others { (i : ℕ) → i ≢ at → has_bit result i ≡ has_bit word i }
+    ensures fits { Fits width result }
+{
+    let one = 1u64 << at;
+    if value { word | one } else { word & !one }
+}
