@@ -9,4 +9,7 @@ mod placement;
 
 pub use cells::Cells;
 pub use fault::{Fault, FaultRefusal, Spot};
-pub use laws::{other_words_do_not_matter, span_begins, span_may_be_cut};
+pub use laws::{
+    last_access_decides, memory_without_a_fault_is_plain, other_words_do_not_matter, span_begins,
+    span_may_be_cut,
+};
