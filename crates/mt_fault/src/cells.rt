@@ -1,4 +1,4 @@
-//! The cells.
+//! The memory as it runs: one step forward at each access.
 
 ghost use Rattle.std.specs.Prelude.{◌≡◌, ◌<◌, ◌≤◌, ◌∷◌, [], ℕ, length, IfOk, OnOk, OnErr, Some, None, replicate};
 ghost use Rattle.mt_word.specs.Word.{Fits};
@@ -13,7 +13,9 @@ use mt_word::{NoMemory, Width};
 use std::alloc::Global;
 use std::marker::Model;
 
-/// Words of one width, with at most one fault.
+/// Words of one width, with at most one fault. Contracts see it as a `Memory`: the width, the fault, the stored words.
+///
+/// Each access takes the time of one or two words, whatever the size. No call tells the fault.
 #[derive(Drop)]
 pub struct Cells {
     width: Width,
@@ -32,7 +34,7 @@ impl Model for Cells {
 }
 
 impl Cells {
-    /// Every word is `initial`, and there is no fault.
+    /// A memory of `size` words, from 1 to 65,536, without a fault. Every word is `initial`.
     pub fn new(alloc: Global, width: Width, size: u32, initial: u64) -> Result<Cells, NoMemory>
         requires some { 1 ≤ size }
         requires limit { size ≤ 65536 }
@@ -49,7 +51,7 @@ impl Cells {
         })
     }
 
-    /// The width.
+    /// The width, which no call changes. What is known of every memory stands here as a clause, for callers' proofs.
     pub fn width(&self) -> Width
         ensures width { result ≡ self.now.width }
         ensures sound { IsSound self.now }
@@ -57,7 +59,7 @@ impl Cells {
         self.width
     }
 
-    /// One read.
+    /// Reads a word, under the fault that is there. It leaves every stored word.
     pub fn read(&mut self, addr: u32) -> u64
         requires { addr < length self.old.words }
         ensures answer { result ≡ answer self.old.fault self.old.words [] addr }
@@ -69,7 +71,7 @@ impl Cells {
     }
 
     #[tactic(auto, using(crate::proofs::Steps::size_after))]
-    /// One write.
+    /// Writes a word, under the fault that is there.
     pub fn write(&mut self, addr: u32, word: u64)
         requires addr { addr < length self.old.words }
         requires word { Fits self.old.width word }
@@ -80,7 +82,11 @@ impl Cells {
     }
 
     #[tactic(auto, using(crate::proofs::Steps::size_first))]
-    /// Puts a fault there. After a refusal nothing has changed.
+    /// Puts a fault there, where it is in range, its two addresses differ and none is there; the first of these that
+    /// fails is the refusal, and then nothing has changed.
+    ///
+    /// A stuck-at fault sets its victim at once, and a state coupling fault where its aggressor holds; such a bit
+    /// stays when the fault is healed.
     pub fn inject(&mut self, fault: Fault) -> Result<(), FaultRefusal>
         ensures answer { result ≡ injection self.old fault }
         ensures ok { OnOk result (self.new ≡ record self.old { fault = Some fault; words = first_words fault self.old.words }) }
@@ -101,7 +107,7 @@ impl Cells {
         Ok(())
     }
 
-    /// Takes the fault away, if one is there. Stored words stay.
+    /// Takes the fault away, if one is there. Stored words stay, also the bits that the fault has forced.
     pub fn heal(&mut self)
         ensures { self.new ≡ record self.old { fault = None } }
     {
