@@ -4,6 +4,10 @@
 ghost use Rattle.std.specs.Prelude.{◌≡◌, ◌≢◌, ◌<◌, ◌^◌, ◌-◌, ◌↔◌, ℕ, IsTrue};
 ghost use Rattle.mt_word.specs.Word.{width_bits, Fits, complement_of, has_bit, put_bit};
 
+mod sum;
+
+pub use sum::wrapping_sum;
+
 /// How many bits a word has.
 #[derive(Clone, Copy, Debug, PartialEq, Eq)]
 pub enum Width {
