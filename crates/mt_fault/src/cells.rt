@@ -114,28 +114,3 @@ impl Cells {
         self.fault = None;
     }
 }
-
-#[cfg(test)]
-mod tests {
-    use super::*;
-    use crate::fault::Spot;
-    use std::test::Fail;
-
-    #[test]
-    fn a_rise_inverts_the_victim(rt: HostRuntime) -> Result<(), Fail> {
-        let mut cells = Cells::new(rt.alloc(), Width::W8, 4, 0)?;
-        let agg = Spot { word: 1, bit: 0 };
-        let vic = Spot { word: 2, bit: 7 };
-        cells.inject(Fault::Invert {
-            agg,
-            rise: true,
-            vic,
-        })?;
-        cells.write(1, 1);
-        assert_eq!(rt; cells.read(2), 128);
-        cells.write(1, 0);
-        cells.write(1, 255);
-        assert_eq!(rt; cells.read(2), 0);
-        Ok(())
-    }
-}
