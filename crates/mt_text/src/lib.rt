@@ -3,6 +3,7 @@
 
 mod call;
 mod cursor;
+mod entry;
 mod event;
 mod handler;
 mod laws;
@@ -10,10 +11,12 @@ mod line;
 mod names;
 mod reading;
 mod request;
+mod text;
 mod token;
 mod value;
 
-pub use laws::one_line;
+pub use laws::{one_line, spelled_lines_are_accepted};
+pub use entry::{entry_text, write_entry};
 pub use line::{Event, FlsCall, Line, LineKind, LineRefusal, RamCall};
 pub use reading::read_line;
 
