@@ -7,8 +7,10 @@ ghost use Rattle.std.specs.Prelude.{◌≡◌, ◌≢◌, ◌<◌, ◌^◌, ◌-
 ghost use Rattle.mt_word.specs.Word.{width_bits, Fits, complement_of, has_bit, put_bit};
 
 mod laws;
+mod sum;
 
 pub use laws::bits_are_put;
+pub use sum::wrapping_sum;
 
 /// How many bits a word has: 8, 16 or 32.
 #[derive(Clone, Copy, Debug, PartialEq, Eq)]
