@@ -39,7 +39,8 @@ impl Cells {
         requires some { 1 ≤ size }
         requires limit { size ≤ 65536 }
         requires initial { Fits width initial }
-        ensures { IfOk result (λ m. m ≡ record { width = width; fault = None; words = replicate size initial }) }
+        ensures words { IfOk result (λ m. m ≡ record { width = width; fault = None; words = replicate size initial }) }
+        ensures sound { IfOk result IsSound }
     {
         let Ok(words) = vec![in alloc; initial; size as usize] else {
             return Err(NoMemory);
@@ -66,6 +67,7 @@ impl Cells {
         ensures after { self.new ≡ after_access self.old (Read addr) }
         ensures unchanged { self.new ≡ self.old }
         ensures fits { Fits self.old.width result }
+        ensures sound { IsSound self.new }
     {
         read_word(&self.words, self.width, self.fault, addr)
     }
@@ -77,6 +79,7 @@ impl Cells {
         requires word { Fits self.old.width word }
         ensures after { self.new ≡ after_access self.old (Write addr word) }
         ensures size { length self.new.words ≡ length self.old.words }
+        ensures sound { IsSound self.new }
     {
         write_word(&mut self.words, self.width, self.fault, addr, word);
     }
@@ -92,6 +95,7 @@ impl Cells {
         ensures ok { OnOk result (self.new ≡ record self.old { fault = Some fault; words = first_words fault self.old.words }) }
         ensures err { OnErr result (self.new ≡ self.old) }
         ensures size { length self.new.words ≡ length self.old.words }
+        ensures sound { IsSound self.new }
     {
         if !is_in_range(self.width, self.words.len(), fault) {
             return Err(FaultRefusal::OutOfRange);
@@ -109,7 +113,8 @@ impl Cells {
 
     /// Takes the fault away, if one is there. Stored words stay, also the bits that the fault has forced.
     pub fn heal(&mut self)
-        ensures { self.new ≡ record self.old { fault = None } }
+        ensures healed { self.new ≡ record self.old { fault = None } }
+        ensures sound { IsSound self.new }
     {
         self.fault = None;
     }

@@ -1,0 +1,7 @@
+//! The simulated board: words with at most one fault, flash words, and the requests of an event.
+#![tactic(auto)]
+
+mod board;
+mod stores;
+
+pub use board::SimBoard;
