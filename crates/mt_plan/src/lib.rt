@@ -4,6 +4,7 @@
 mod algorithm;
 mod counting;
 mod cursor;
+mod indexing;
 mod laws;
 mod marching;
 mod place;
@@ -13,5 +14,5 @@ mod rows;
 pub use algorithm::{Act, Algorithm, Policy, Step};
 pub use counting::{hold_of, steps};
 pub use cursor::Steps;
+pub use indexing::step_at;
 pub use laws::{kept_cells, lengths, march_on_kept_cells, plans_are_steady};
-pub use rows::step_at;
