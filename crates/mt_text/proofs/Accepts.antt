@@ -1,15 +1,14 @@
 -- What is read is accepted.
-use Rattle.std.proofs.Common.{◌≡◌, ◌≢◌, ℕ, ◌+◌, ◌<◌, ◌≤◌, ◌^◌, ◌==◌, nat_lt, nat_le, not, Bool, true, false, cond, List, [], ◌∷◌, ◌++◌, length, drop, Option, Some, None, Result, Ok, Err, refl, sym, ap, subst, ◌∙◌, inl, inr, arith}
-use Rattle.std.specs.List.{All, list_all}
+use Rattle.std.proofs.Common.{◌≡◌, ◌≢◌, ℕ, ◌<◌, ◌≤◌, ◌^◌, ◌==◌, nat_lt, nat_le, not, Bool, true, false, cond, List, length, drop, Option, Some, None, Result, Ok, Err, refl, ap, subst, ◌∙◌, inl, inr, arith}
+use Rattle.std.specs.List.{list_all}
 use Rattle.std.proofs.lemmas.Bool.{cases_Bool}
 use Rattle.std.proofs.lemmas.Bool.Decides.{nat_tests}
-use Rattle.std.proofs.lemmas.List.Elements.{All-append, All-nil}
 use Rattle.std.specs.Str.{bytes_eq}
 use Rattle.mt_word.specs.Word.{width_bits, Fits}
 use Rattle.mt_fault.specs.declared.fault.Spot.{Spot}
 use Rattle.mt_fault.specs.Placement.{IsSpot}
 use Rattle.mt_port.specs.declared.board.Shape.{Shape}
-use Rattle.mt_text.specs.Tokens.{Token, number_of, hex_of, spot_of, begins_word, decimal, is_digit, has_leading_zero}
+use Rattle.mt_text.specs.Tokens.{number_of, hex_of, spot_of, begins_word, decimal, is_digit, has_leading_zero}
 use Rattle.mt_text.specs.Forms.{Form, done, none, row, barred, value, spot, mark, Slot, Num, Addr, FlashAddr, OtherAddr, Data, Bit, SpotSlot, RamSpot, OtherSpot, FlashSpot, step, mapped, value_at, word_at, spot_at, spot_word_at, mark_at, begins_mark, broken_if, spelled, mapped_ok}
 use Rattle.mt_text.specs.declared.line.LineKind.{LineKind}
 use Rattle.mt_text.specs.declared.line.LineKind.TheVariants.{Spelling, Address, WordTooWide, OffsetsFall, TooManyRequests, FaultRefused}

@@ -7,3 +7,4 @@ pub mod Numbers
 pub mod Accepts
 pub mod Sound
 pub mod Parts
+pub mod HexLemmas

@@ -1,25 +1,24 @@
 -- The parts of a line that its tokens lead to are good, and a whole line is accepted.
-use Rattle.std.proofs.Common.{◌≡◌, ℕ, ◌+◌, ◌<◌, ◌≤◌, ◌^◌, nat_le, Bool, true, false, cond, List, [], ◌∷◌, ◌++◌, length, Option, Some, None, Result, Ok, Err, refl, sym, ap, subst, ◌∙◌, inl, inr, arith, lit<, length-append, IfOk}
+use Rattle.std.proofs.Common.{◌≡◌, ℕ, ◌+◌, ◌<◌, ◌≤◌, nat_le, Bool, true, false, List, [], ◌∷◌, ◌++◌, length, Option, Some, None, Result, Ok, Err, refl, sym, subst, arith, length-append, IfOk}
 use Rattle.std.specs.List.{All}
-use Rattle.std.proofs.lemmas.Bool.{cases_Bool}
 use Rattle.std.proofs.lemmas.Bool.Decides.{nat_tests}
-use Rattle.std.proofs.lemmas.List.Elements.{All-nil, All-head, All-tail, All-push, All-cons, All-from_recursion, recursion_from_All}
+use Rattle.std.proofs.lemmas.List.Elements.{All-nil, All-head, All-push}
 use Rattle.mt_port.specs.declared.board.Shape.{Shape}
 use Rattle.mt_port.specs.declared.request.Module.{Module}
 use Rattle.mt_port.specs.declared.request.Module.TheVariants.{RamTst, FlsTst}
 use Rattle.mt_port.specs.declared.request.HandlerOp.{HandlerOp}
 use Rattle.mt_port.specs.declared.request.Request.{Request}
-use Rattle.mt_port.specs.Board.{IsSoundInHandler, AreOrdered, AreSoundRequests}
+use Rattle.mt_port.specs.Board.{IsSoundInHandler, AreOrdered}
 use Rattle.mt_text.specs.Tokens.{Token, tokens}
-use Rattle.mt_text.specs.Forms.{Form, done, none, row, barred, value, spot, mark, step}
-use Rattle.mt_text.specs.Lines.{event, app_op, op_form, running_module, Part, Start, Ended, Requests, Handler, Open, Operation, Separator, part_form, follows, followed, request, line, last_offset, whole, whole_at, settled, Leads, SpellsTokens, SpellsAt, Spells, is_comment, line_of}
+use Rattle.mt_text.specs.Forms.{Form, done, none, row, barred, value, spot, mark}
+use Rattle.mt_text.specs.Lines.{event, app_op, op_form, running_module, Part, Start, Ended, Requests, Handler, Open, Operation, Separator, part_form, follows, followed, request, line, last_offset, whole, whole_at, settled, Leads, SpellsAt, Spells, is_comment, line_of}
 use Rattle.mt_text.specs.declared.line.Event.{Event}
 use Rattle.mt_text.specs.declared.line.Event.TheVariants.{Nothing}
 use Rattle.mt_text.specs.declared.line.Line.{Line}
 use Rattle.mt_text.specs.declared.line.LineRefusal.{LineRefusal}
 use Rattle.mt_text.proofs.Readings.{spells_from}
-use Rattle.mt_text.specs.Accepted.{IsNumber, IsSoundEvent, IsFor, IsRequest, AreFor, IsAccepted}
-use Rattle.mt_text.proofs.Accepts.{Every, every_mapped, every_step, IsMark}
+use Rattle.mt_text.specs.Accepted.{IsNumber, IsSoundEvent, IsFor, IsRequest, IsAccepted}
+use Rattle.mt_text.proofs.Accepts.{Every, every_mapped, every_step}
 use Rattle.mt_text.proofs.Sound.{IsGoodOp, events, operations}
 
 -- the requests of a running event

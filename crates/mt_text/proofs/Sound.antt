@@ -1,31 +1,17 @@
 -- The values of the table are sound, and so are the parts of a line.
-use Rattle.std.proofs.Common.{◌≡◌, ◌≢◌, ℕ, ◌+◌, ◌<◌, ◌≤◌, ◌^◌, nat_le, Bool, true, false, cond, List, [], ◌∷◌, ◌++◌, length, Option, Some, None, Result, Ok, Err, refl, sym, ap, subst, ◌∙◌, inl, inr, arith, lit<}
-use Rattle.std.specs.List.{All}
-use Rattle.std.proofs.lemmas.Bool.{cases_Bool}
-use Rattle.std.proofs.lemmas.Bool.Decides.{nat_tests}
-use Rattle.std.proofs.lemmas.List.Elements.{All-append, All-nil}
+use Rattle.std.proofs.Common.{Bool, true, false, refl}
 use Rattle.mt_fault.specs.Placement.{IsWellPlaced}
-use Rattle.mt_fault.specs.declared.fault.Fault.{Fault}
 use Rattle.mt_port.specs.declared.board.Shape.{Shape}
 use Rattle.mt_port.specs.declared.request.Module.{Module}
 use Rattle.mt_port.specs.declared.request.Module.TheVariants.{RamTst, FlsTst}
-use Rattle.mt_port.specs.declared.request.AppOp.{AppOp}
 use Rattle.mt_port.specs.declared.request.HandlerOp.{HandlerOp}
 use Rattle.mt_port.specs.declared.request.HandlerOp.TheVariants.{App as AppIn, Call}
-use Rattle.mt_port.specs.declared.request.HandlerCall.{HandlerCall}
-use Rattle.mt_port.specs.declared.request.Request.{Request}
-use Rattle.mt_port.specs.Board.{IsSoundOp, IsSoundInHandler, AreOrdered, AreSoundRequests}
-use Rattle.mt_window.specs.Calls.{module_of}
-use Rattle.mt_text.specs.Tokens.{Token}
-use Rattle.mt_text.specs.Forms.{Form, done, none, row, barred, value, spot, mark, step, mapped, rows}
-use Rattle.mt_text.specs.RamServices.{ram_call, ram_name, ram_entry, ram_handler_call}
-use Rattle.mt_text.specs.FlsServices.{fls_call, fls_name, fls_entry, fls_handler_call}
-use Rattle.mt_text.specs.Lines.{app_op, fault, event, op_form, running_module}
-use Rattle.mt_text.specs.declared.line.Event.{Event}
-use Rattle.mt_text.specs.declared.line.Event.TheVariants.{Nothing, Ram, Fls, TickRam, TickFls, App, Inject, Heal, Burn, Flip}
-use Rattle.mt_text.specs.declared.line.RamCall.{RamCall}
-use Rattle.mt_text.specs.declared.line.FlsCall.{FlsCall}
-use Rattle.mt_text.specs.Accepted.{IsNumber, IsRamCall, IsFlsCall, IsSoundEvent, IsHandlerCall, IsFor}
+use Rattle.mt_port.specs.Board.{IsSoundOp, IsSoundInHandler}
+use Rattle.mt_text.specs.RamServices.{ram_call, ram_handler_call}
+use Rattle.mt_text.specs.FlsServices.{fls_call, fls_handler_call}
+use Rattle.mt_text.specs.Lines.{app_op, fault, event, op_form}
+use Rattle.mt_text.specs.declared.line.Event.TheVariants.{Ram, Fls, App, Inject}
+use Rattle.mt_text.specs.Accepted.{IsRamCall, IsFlsCall, IsSoundEvent, IsFor}
 use Rattle.mt_text.proofs.Accepts.{Every, every_mapped}
 
 pub app_ops : (shape : Shape) → Every shape (IsSoundOp shape) app_op

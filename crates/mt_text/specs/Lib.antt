@@ -7,3 +7,4 @@ pub mod Lines
 pub mod Accepted
 pub mod Digits
 pub mod Trace
+pub mod Canonical

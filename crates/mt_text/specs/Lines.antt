@@ -2,7 +2,7 @@
 use Rattle.std.specs.Prelude.{◌≡◌, ℕ, ◌+◌, ◌==◌, nat_le, ◌||◌, codes, Bool, true, false, if◌then◌else◌, List, [], ◌∷◌, ◌++◌, length, Option, Some, None, Result, Ok, Err, ◌⊎◌}
 use Rattle.std.specs.Str.{bytes_eq}
 use Rattle.mt_text.specs.Tokens.{Token, tokens}
-use Rattle.mt_text.specs.Forms.{Form, done, none, row, rows, barred, value, spot, Num, Addr, FlashAddr, OtherAddr, Data, Bit, mark, RamSpot, OtherSpot, FlashSpot, mapped, step, at_place, refused, ◌>>=◌}
+use Rattle.mt_text.specs.Forms.{Form, done, none, row, barred, value, spot, Addr, FlashAddr, OtherAddr, Data, Bit, mark, RamSpot, OtherSpot, FlashSpot, mapped, step, at_place, refused, ◌>>=◌}
 use Rattle.mt_text.specs.RamServices.{ram_call, ram_handler_call}
 use Rattle.mt_text.specs.FlsServices.{fls_call, fls_handler_call}
 use Rattle.mt_port.specs.declared.board.Shape.{Shape}

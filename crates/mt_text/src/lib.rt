@@ -8,6 +8,7 @@ mod event;
 mod handler;
 mod laws;
 mod line;
+mod line_text;
 mod names;
 mod reading;
 mod request;
