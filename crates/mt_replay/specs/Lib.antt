@@ -2,3 +2,5 @@ pub mod Input
 pub mod Status
 pub mod Machine
 pub mod Outcome
+pub mod Run
+pub mod Events

@@ -27,9 +27,12 @@ pub record Run : Type 0 where
 abbrev pub closed : Machine → List ℕ → Status → Run
 closed m text status = record { text = text; touches = []; status = status; board = m.board }
 
--- after so many lines
+-- the closing line after so many lines
+abbrev pub done_text : ℕ → List ℕ
+done_text count = codes "end ok " ++ decimal count ++ codes "\n"
+
 abbrev pub done : Machine → ℕ → Run
-done m count = closed m (codes "end ok " ++ decimal count ++ codes "\n") status.Done
+done m count = closed m (done_text count) status.Done
 
 -- the text of a refused line
 abbrev pub refused_text : (line code place : ℕ) → List ℕ
@@ -38,8 +41,15 @@ refused_text line code place = codes "bad line " ++ decimal line ++ codes " " ++
 abbrev pub refused : Machine → (line code place : ℕ) → Run
 refused m line code place = closed m (refused_text line code place) (status.BadScript line code place)
 
+abbrev pub read_fault_text : List ℕ
+read_fault_text = codes "read fault\n"
+
 abbrev pub read_fault : Machine → Run
-read_fault m = closed m (codes "read fault\n") status.ReadFault
+read_fault m = closed m read_fault_text status.ReadFault
+
+-- the text of a refused configuration
+abbrev pub bad_config_text : ℕ → List ℕ
+bad_config_text code = codes "bad config " ++ decimal code ++ codes "\n"
 
 -- a text and test accesses in front
 abbrev pub preceded : List ℕ → List Touch → Run → Run

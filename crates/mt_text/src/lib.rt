@@ -20,6 +20,7 @@ pub use laws::{one_line, spelled_lines_are_accepted};
 pub use entry::{entry_text, write_entry};
 pub use line::{Event, FlsCall, Line, LineKind, LineRefusal, RamCall};
 pub use reading::read_line;
+pub use text::{push_bytes, push_number};
 
 #[cfg(test)]
 mod tests;
