@@ -2,6 +2,7 @@
 
 ghost use Rattle.std.specs.Prelude.{◌≡◌, ◌≤◌, length};
 ghost use Rattle.mt_march.specs.Value.{element as element_lem};
+ghost use Rattle.mt_march.specs.Accepted.{IsAcceptedMarch};
 ghost use Rattle.mt_march.specs.Known.{march_c_minus, mats_plus};
 
 use crate::march::{Element, March, Op, Order};
@@ -53,7 +54,8 @@ impl March {
 
 /// March C-, `{*(w0); u(r0,w1); u(r1,w0); d(r0,w1); d(r1,w0); *(r0)}`: van de Goor, Testing Semiconductor Memories.
 pub fn march_c_minus() -> March
-    ensures { result.elements.items ≡ march_c_minus }
+    ensures value { result.elements.items ≡ march_c_minus }
+    ensures accepted { IsAcceptedMarch result.elements.items }
 {
     let mut elements = ArrayVec::new();
     elements.push(element(Order::Either, &[Op::W0]));
@@ -67,7 +69,8 @@ pub fn march_c_minus() -> March
 
 /// MATS+, `{*(w0); u(r0,w1); d(r1,w0)}`: van de Goor, Testing Semiconductor Memories.
 pub fn mats_plus() -> March
-    ensures { result.elements.items ≡ mats_plus }
+    ensures value { result.elements.items ≡ mats_plus }
+    ensures accepted { IsAcceptedMarch result.elements.items }
 {
     let mut elements = ArrayVec::new();
     elements.push(element(Order::Either, &[Op::W0]));

@@ -3,3 +3,5 @@ pub mod Bases
 pub mod Whole
 pub mod Counts
 pub mod Standing
+pub mod SteadyPlans
+pub mod KeptCells

@@ -1,7 +1,7 @@
 -- The step at a place of an algorithm, and the place after it.
 use Rattle.std.proofs.Common.{ℕ, ◌≡◌, ◌≢◌, ◌+◌, ◌-◌, ◌*◌, ◌/◌, ◌%◌, ◌<◌, ◌≤◌, zero, suc, List, length, length-append, add-one, refl, arith, ap, sym, ◌∙◌, subst, Some, None, inl, inr}
 use Rattle.std.specs.Prelude.{slice_get}
-use Rattle.std.proofs.lemmas.Bool.{cases_eq}
+use Rattle.std.proofs.lemmas.Bool.{cases_eq, cases_lt}
 use Rattle.std.proofs.lemmas.List.{length-map}
 use Rattle.std.proofs.lemmas.Option.{slice_get_past}
 use Rattle.std.proofs.Math.Nat.{div-lt_iff_lt-mul}
@@ -12,10 +12,11 @@ use Rattle.mt_plan.specs.declared.algorithm.Algorithm.{Algorithm}
 use Rattle.mt_plan.specs.declared.algorithm.Algorithm.TheVariants.{Checkerboard, March as Marches, WalkPath, Galpat, TransparentGalpat}
 use Rattle.mt_plan.specs.declared.algorithm.Step.{Step}
 use Rattle.mt_plan.specs.declared.place.Place.{Place}
+use Rattle.mt_plan.specs.declared.cursor.Steps.{Steps}
 use Rattle.mt_plan.specs.Lists.{cells, step, act_of, walk_base, galpat_base}
 use Rattle.mt_plan.specs.Plan.{IsAccepted, steps_of, step_count}
 use Rattle.mt_plan.specs.Rows.{part_count, row_count, row_of, rows_of, parts_of, element_row, cell_at, is_second}
-use Rattle.mt_plan.specs.Cursor.{IsPlace, index_of}
+use Rattle.mt_plan.specs.Cursor.{IsPlace, Stands, index_of}
 use Rattle.mt_plan.proofs.Items.{in_piece, within_piece, one_more, length-one_more, length-even}
 use Rattle.mt_plan.proofs.Bases.{first_len, walk_len, galpat_len}
 use Rattle.mt_plan.proofs.Whole.{whole}
@@ -162,3 +163,108 @@ march_done march n part left i is index within =
 -- an index is below the closed form
 pub within_count : (algorithm exact : Algorithm) (n i : ℕ) → algorithm ≡ exact → i < length (steps_of algorithm n) → i < step_count exact n
 within_count algorithm exact n i is h = omega (arith, length-steps algorithm n, ap (λ (a : Algorithm). step_count a n) is)
+
+-- ---- the cursor
+
+pub some_part : (algorithm : Algorithm) → IsAccepted algorithm → 0 < part_count algorithm
+some_part Checkerboard is = omega arith
+some_part (Marches march) is = omega (arith, is.some)
+some_part WalkPath is = omega arith
+some_part Galpat is = omega arith
+some_part TransparentGalpat is = omega arith
+
+pub some_row : (algorithm : Algorithm) (n : ℕ) → 1 ≤ n → 0 < row_count algorithm n
+some_row Checkerboard n h = omega arith
+some_row (Marches march) n h = omega arith
+some_row WalkPath n h = omega arith
+some_row Galpat n h = omega arith
+some_row TransparentGalpat n h = omega arith
+
+-- the first place
+pub stands_first : (algorithm : Algorithm) (n len : ℕ) → IsAccepted algorithm → 1 ≤ n → n ≤ 64 → 0 < part_count algorithm → 0 < row_count algorithm n → len ≡ length (row_of algorithm n 0 0) → 1 ≤ len
+    → Stands algorithm (record { n = n; made = 0; place = record { part = 0; row = 0; at = 0 }; row_end = len })
+stands_first algorithm n len accepted some small parts rows is long = record {
+  accepted = accepted;
+  some = some;
+  small = small;
+  index = refl;
+  parts = omega arith;
+  place = λ h. record { part = h; row = omega arith; at = omega arith };
+  row_end = λ h. is;
+  end = λ e. absurd (omega arith);
+}
+
+pub made_few : (algorithm : Algorithm) (s : Steps) → Stands algorithm s → s.place.part < part_count algorithm → s.made < 16640
+made_few algorithm s is h = omega (arith, is.index, few_made algorithm s.n s.place is.accepted is.small (is.place h))
+
+-- one place on in the row
+pub stands_on : (algorithm : Algorithm) (s : Steps) → Stands algorithm s → s.place.part < part_count algorithm → s.place.at + 1 < s.row_end
+    → Stands algorithm (record { n = s.n; made = s.made + 1; place = record { part = s.place.part; row = s.place.row; at = s.place.at + 1 }; row_end = s.row_end })
+stands_on algorithm s is h more =
+    let at : IsPlace algorithm s.n s.place = is.place h in
+    record {
+      accepted = is.accepted;
+      some = is.some;
+      small = is.small;
+      index = omega (arith, is.index);
+      parts = is.parts;
+      place = λ g. record { part = g; row = at.row; at = omega (arith, is.row_end g) };
+      row_end = is.row_end;
+      end = λ e. absurd (omega arith);
+    }
+
+-- in the next row
+stands_row : (algorithm : Algorithm) (s : Steps) (len : ℕ) → Stands algorithm s → s.place.part < part_count algorithm → s.row_end ≤ s.place.at + 1 → s.place.row + 1 < row_count algorithm s.n
+    → (s.place.part < part_count algorithm → len ≡ length (row_of algorithm s.n s.place.part (s.place.row + 1))) → (s.place.part < part_count algorithm → 1 ≤ len)
+    → Stands algorithm (record { n = s.n; made = s.made + 1; place = record { part = s.place.part; row = s.place.row + 1; at = 0 }; row_end = len })
+stands_row algorithm s len is h done more ends long =
+    let at : IsPlace algorithm s.n s.place = is.place h in
+    record {
+      accepted = is.accepted;
+      some = is.some;
+      small = is.small;
+      index = omega (arith, is.index, is.row_end h, at.at, next_row algorithm s.n s.place.part s.place.row);
+      parts = is.parts;
+      place = λ g. record { part = g; row = more; at = omega (arith, ends g, long g) };
+      row_end = ends;
+      end = λ e. absurd (omega arith);
+    }
+
+-- in the next part, or behind the last one
+stands_part : (algorithm : Algorithm) (s : Steps) (len : ℕ) → Stands algorithm s → s.place.part < part_count algorithm → s.row_end ≤ s.place.at + 1 → row_count algorithm s.n ≤ s.place.row + 1 → 0 < row_count algorithm s.n
+    → (s.place.part + 1 < part_count algorithm → len ≡ length (row_of algorithm s.n (s.place.part + 1) 0)) → (s.place.part + 1 < part_count algorithm → 1 ≤ len)
+    → Stands algorithm (record { n = s.n; made = s.made + 1; place = record { part = s.place.part + 1; row = 0; at = 0 }; row_end = len })
+stands_part algorithm s len is h done last rows ends long =
+    let at : IsPlace algorithm s.n s.place = is.place h in
+    let count : row_count algorithm s.n ≡ s.place.row + 1 = omega (arith, at.row) in
+    let all : length (rows_of algorithm s.n s.place.part (row_count algorithm s.n)) ≡ length (rows_of algorithm s.n s.place.part s.place.row) + length (row_of algorithm s.n s.place.part s.place.row) = ap (λ (k : ℕ). length (rows_of algorithm s.n s.place.part k)) count ∙ next_row algorithm s.n s.place.part s.place.row in
+    record {
+      accepted = is.accepted;
+      some = is.some;
+      small = is.small;
+      index = omega (arith, is.index, is.row_end h, at.at, all, next_part algorithm s.n s.place.part);
+      parts = omega arith;
+      place = λ g. record { part = g; row = omega arith; at = omega (arith, ends g, long g) };
+      row_end = ends;
+      end = λ e. (refl, refl);
+    }
+
+pub stands_after : (algorithm : Algorithm) (s : Steps) (place : Place) (len : ℕ) → Stands algorithm s → s.place.part < part_count algorithm → s.row_end ≤ s.place.at + 1
+    → (s.place.row + 1 < row_count algorithm s.n → place ≡ record { part = s.place.part; row = s.place.row + 1; at = 0 })
+    → (row_count algorithm s.n ≤ s.place.row + 1 → place ≡ record { part = s.place.part + 1; row = 0; at = 0 })
+    → 0 < row_count algorithm s.n
+    → (place.part < part_count algorithm → len ≡ length (row_of algorithm s.n place.part place.row)) → (place.part < part_count algorithm → 1 ≤ len)
+    → Stands algorithm (record { n = s.n; made = s.made + 1; place = place; row_end = len })
+stands_after algorithm s place len is h done same over rows ends long =
+    let made : Place → Type 0 = λ (p : Place). (p.part < part_count algorithm → len ≡ length (row_of algorithm s.n p.part p.row)) → (p.part < part_count algorithm → 1 ≤ len) → Stands algorithm (record { n = s.n; made = s.made + 1; place = p; row_end = len }) in
+    elim (cases_lt (s.place.row + 1) (row_count algorithm s.n)) [
+      | inl lt ↦ subst made (sym (same lt)) (stands_row algorithm s len is h done lt) ends long
+      | inr le ↦ subst made (sym (over le)) (stands_part algorithm s len is h done le rows) ends long
+    ]
+
+-- what a cursor hands out
+pub stands_step : (algorithm : Algorithm) (s : Steps) (t : Step) → Stands algorithm s → s.place.part < part_count algorithm → slice_get (row_of algorithm s.n s.place.part s.place.row) s.place.at ≡ Some t → slice_get (steps_of algorithm s.n) s.made ≡ Some t
+stands_step algorithm s t is h at = subst (λ (i : ℕ). slice_get (steps_of algorithm s.n) i ≡ Some t) (sym is.index) (step_at_place algorithm s.n s.place t (is.place h) at)
+
+pub stands_end : (algorithm : Algorithm) (s : Steps) → Stands algorithm s → s.place.part ≡ part_count algorithm → slice_get (steps_of algorithm s.n) s.made ≡ None
+stands_end algorithm s is e = subst (λ (i : ℕ). slice_get (steps_of algorithm s.n) i ≡ None) (sym is.index) (none_at_end algorithm s.n s.place e (is.end e).0 (is.end e).1)

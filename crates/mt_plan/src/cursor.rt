@@ -93,24 +93,38 @@ impl Steps {
                 row_end,
             };
         }
-        let place = if row + 1 < row_count(algorithm, n) {
-            Place {
-                part,
-                row: row + 1,
-                at: 0,
-            }
-        } else {
-            Place {
-                part: part + 1,
-                row: 0,
-                at: 0,
-            }
-        };
+        let place = row_after(algorithm, n, part, row);
         Steps {
             n,
             made,
             place,
             row_end: row_end_at(algorithm, n, place),
+        }
+    }
+}
+
+/// The beginning of the row after one.
+fn row_after(algorithm: &Algorithm, n: u32, part: u32, row: u32) -> Place
+    requires some { 1 ≤ n }
+    requires small { n ≤ 64 }
+    requires accepted { IsAccepted algorithm.now }
+    requires part { part < part_count algorithm.now }
+    requires row { row < row_count algorithm.now n }
+    ensures same { row + 1 < row_count algorithm.now n → result ≡ record { part = part; row = row + 1; at = 0 } }
+    ensures over { row_count algorithm.now n ≤ row + 1 → result ≡ record { part = part + 1; row = 0; at = 0 } }
+    ensures inside { result.row < row_count algorithm.now n }
+{
+    if row + 1 < row_count(algorithm, n) {
+        Place {
+            part,
+            row: row + 1,
+            at: 0,
+        }
+    } else {
+        Place {
+            part: part + 1,
+            row: 0,
+            at: 0,
         }
     }
 }
@@ -121,7 +135,8 @@ fn row_end_at(algorithm: &Algorithm, n: u32, place: Place) -> u32
     requires some { 1 ≤ n }
     requires small { n ≤ 64 }
     requires row { place.row < row_count algorithm.now n }
-    ensures { place.part < part_count algorithm.now → result ≡ length (row_of algorithm.now n place.part place.row) }
+    ensures len { place.part < part_count algorithm.now → result ≡ length (row_of algorithm.now n place.part place.row) }
+    ensures some { place.part < part_count algorithm.now → 1 ≤ result }
 {
     if place.part < part_count(algorithm) {
         row_len(algorithm, n, place.part, place.row)

@@ -16,3 +16,6 @@ pub use counting::{hold_of, steps};
 pub use cursor::Steps;
 pub use indexing::step_at;
 pub use laws::{kept_cells, lengths, march_on_kept_cells, plans_are_steady};
+
+#[cfg(test)]
+mod tests;

@@ -29,6 +29,7 @@ pub fn row_count(algorithm: &Algorithm, n: u32) -> u32
     requires { n ≤ 64 }
     ensures count { result ≡ row_count algorithm.now n }
     ensures some { n ≤ result }
+    ensures few { result ≤ 65 }
 {
     match algorithm {
         Algorithm::Checkerboard | Algorithm::March(_) => n,
