@@ -1,10 +1,10 @@
 -- Forms for each of some words.
-use Rattle.std.proofs.Common.{◌≡◌, ℕ, Bool, true, false, cond, List, [], ◌∷◌, Option, Some, None, Result, Ok, Err, refl, sym, ap, ◌∙◌, inl, inr, ◌<◌, ◌+◌, length, drop, get_or, subst, ◌≤◌, arith, lit≤}
+use Rattle.std.proofs.Common.{◌≡◌, ℕ, true, false, List, [], ◌∷◌, Some, None, Result, Ok, Err, refl, sym, ap, ◌∙◌, inl, inr, ◌<◌, ◌+◌, length, drop, get_or, subst, ◌≤◌, arith}
 use Rattle.std.proofs.lemmas.Bool.{cases_Bool}
 use Rattle.std.proofs.lemmas.List.{drop_more}
 use Rattle.std.specs.Str.{bytes_eq}
 use Rattle.mt_text.specs.Tokens.{Token}
-use Rattle.mt_text.specs.Forms.{Form, read, rows, named, refused, Entry, Opens, Breaks, entered, read_entry, is_done, Gives, mapped, ◌>>=◌, next, at_place, value_at, spot_at, mark_at, mark, step, value, spot, row, barred, none, done}
+use Rattle.mt_text.specs.Forms.{Form, read, rows, named, refused, Entry, Opens, Breaks, entered, read_entry, is_done, Gives, mapped, ◌>>=◌, at_place, value_at, spot_at, mark_at, mark, value, spot, row, barred, none, done}
 use Rattle.mt_text.specs.declared.line.LineKind.{LineKind}
 use Rattle.mt_text.specs.declared.line.LineRefusal.{LineRefusal}
 use Rattle.mt_port.specs.declared.board.Shape.{Shape}

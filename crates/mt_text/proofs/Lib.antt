@@ -4,3 +4,7 @@ pub mod LineLemmas
 pub mod RunLemmas
 pub mod Readings
 pub mod Numbers
+pub mod Accepts
+pub mod Sound
+pub mod Parts
+pub mod HexLemmas

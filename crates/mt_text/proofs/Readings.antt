@@ -1,9 +1,8 @@
 -- What comes of a text is what it spells, or what refuses it.
-use Rattle.std.proofs.Common.{◌≡◌, ℕ, ◌+◌, Bool, true, false, cond, List, [], ◌∷◌, ◌++◌, length, Option, Some, None, Result, Ok, Err, refl, sym, ap, subst, ◌∙◌, ◌⊎◌, inl, inr, IfOk, IfErr}
-use Rattle.std.proofs.lemmas.Bool.{cases_Bool}
+use Rattle.std.proofs.Common.{◌≡◌, ℕ, ◌+◌, true, false, cond, List, [], ◌∷◌, ◌++◌, length, Option, Some, None, Result, Ok, Err, refl, sym, ap, ◌∙◌, ◌⊎◌, inl, inr, IfOk, IfErr}
 use Rattle.mt_text.specs.Tokens.{Token, tokens}
 use Rattle.mt_text.specs.Forms.{Form, done, step, at_place, refused, ◌>>=◌}
-use Rattle.mt_text.specs.Lines.{Part, Start, run, settled, whole_at, ends_with, Leads, SpellsTokens, SpellsAt, Spells, FirstBroken, EndsEarly, Refuses, line_of, is_comment, begins_comment, line}
+use Rattle.mt_text.specs.Lines.{Part, Start, run, settled, whole_at, ends_with, Leads, SpellsAt, Spells, FirstBroken, EndsEarly, Refuses, line_of, is_comment, begins_comment, line}
 use Rattle.mt_port.specs.declared.board.Shape.{Shape}
 use Rattle.mt_text.specs.declared.line.Line.{Line}
 use Rattle.mt_text.specs.declared.line.Event.TheVariants.{Nothing}

@@ -1,12 +1,12 @@
 -- Token by token, from one part of a line to the next.
-use Rattle.std.proofs.Common.{◌≡◌, ℕ, Bool, true, false, cond, nat_le, List, [], ◌∷◌, ◌++◌, length, Option, Some, None, Result, Ok, Err, refl, sym, ap, subst, ◌∙◌, inl, inr, codes}
+use Rattle.std.proofs.Common.{◌≡◌, ℕ, Bool, true, false, nat_le, List, [], ◌∷◌, ◌++◌, length, None, Result, Ok, Err, refl, sym, ap, subst, ◌∙◌, inl, inr, codes}
 use Rattle.std.proofs.lemmas.Bool.{cases_Bool}
 use Rattle.std.specs.Str.{bytes_eq}
 use Rattle.std.specs.Prelude.{if◌then◌else◌}
 use Rattle.mt_text.specs.Tokens.{Token}
 use Rattle.mt_text.specs.Cursors.{first_is, behind, no_token}
 use Rattle.mt_text.specs.Forms.{Form, done, none, row, barred, value, spot, mark, mark_at, read, refused, is_done, mapped, ◌>>=◌, at_place, value_at, spot_at, step, mapped_ok}
-use Rattle.mt_text.specs.Lines.{Part, Start, Ended, Requests, Handler, Open, Operation, Separator, part_form, request_form, operation_form, op_form, event, follows, run, settled, whole_at, ends_with, request, line, last_offset, Continues}
+use Rattle.mt_text.specs.Lines.{Part, Start, Ended, Requests, Handler, Open, Operation, Separator, part_form, operation_form, op_form, event, follows, run, settled, whole_at, request, line, last_offset, Continues}
 use Rattle.mt_port.specs.declared.board.Shape.{Shape}
 use Rattle.mt_text.specs.declared.line.Event.{Event}
 use Rattle.mt_port.specs.declared.request.Module.{Module}

@@ -4,3 +4,7 @@ pub mod Forms
 pub mod RamServices
 pub mod FlsServices
 pub mod Lines
+pub mod Accepted
+pub mod Digits
+pub mod Trace
+pub mod Canonical

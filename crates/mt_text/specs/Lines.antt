@@ -2,7 +2,7 @@
 use Rattle.std.specs.Prelude.{◌≡◌, ℕ, ◌+◌, ◌==◌, nat_le, ◌||◌, codes, Bool, true, false, if◌then◌else◌, List, [], ◌∷◌, ◌++◌, length, Option, Some, None, Result, Ok, Err, ◌⊎◌}
 use Rattle.std.specs.Str.{bytes_eq}
 use Rattle.mt_text.specs.Tokens.{Token, tokens}
-use Rattle.mt_text.specs.Forms.{Form, done, none, row, rows, barred, value, spot, Num, Addr, FlashAddr, OtherAddr, Data, Bit, mark, RamSpot, OtherSpot, FlashSpot, mapped, step, at_place, refused, ◌>>=◌}
+use Rattle.mt_text.specs.Forms.{Form, done, none, row, barred, value, spot, Addr, FlashAddr, OtherAddr, Data, Bit, mark, RamSpot, OtherSpot, FlashSpot, mapped, step, at_place, refused, ◌>>=◌}
 use Rattle.mt_text.specs.RamServices.{ram_call, ram_handler_call}
 use Rattle.mt_text.specs.FlsServices.{fls_call, fls_handler_call}
 use Rattle.mt_port.specs.declared.board.Shape.{Shape}
@@ -93,13 +93,13 @@ last_offset (r ∷ []) = r.offset
 last_offset (r ∷ s ∷ rs) = last_offset (s ∷ rs)
 
 -- the module of a running event
-abbrev pub module_of : Event → Option Module
-module_of (Ram RunFullTest) = Some RamTst
-module_of (Ram (RunPartialTest n)) = Some RamTst
-module_of (Fls (StartFgnd n)) = Some FlsTst
-module_of TickRam = Some RamTst
-module_of TickFls = Some FlsTst
-module_of _ = None
+abbrev pub running_module : Event → Option Module
+running_module (Ram RunFullTest) = Some RamTst
+running_module (Ram (RunPartialTest n)) = Some RamTst
+running_module (Fls (StartFgnd n)) = Some FlsTst
+running_module TickRam = Some RamTst
+running_module TickFls = Some FlsTst
+running_module _ = None
 
 -- How far a line has come: nothing, an event that no request may follow, or a running event with the requests before this place.
 -- In a request: behind its mark, behind its bracket, before a further operation, and behind an operation.
@@ -117,7 +117,7 @@ followed ev None = Ended ev
 followed ev (Some m) = Requests m ev []
 
 abbrev pub follows : Event → Part
-follows ev = followed ev (module_of ev)
+follows ev = followed ev (running_module ev)
 
 abbrev pub request_form : Module → Event → List Request → Form Part
 request_form m ev rs = mark (last_offset rs) (length rs) (λ n. done (Handler m ev rs n))

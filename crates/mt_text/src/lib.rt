@@ -3,17 +3,21 @@
 
 mod call;
 mod cursor;
+mod entry;
 mod event;
 mod handler;
 mod laws;
 mod line;
+mod line_text;
 mod names;
 mod reading;
 mod request;
+mod text;
 mod token;
 mod value;
 
-pub use laws::one_line;
+pub use laws::{one_line, spelled_lines_are_accepted};
+pub use entry::{entry_text, write_entry};
 pub use line::{Event, FlsCall, Line, LineKind, LineRefusal, RamCall};
 pub use reading::read_line;
 

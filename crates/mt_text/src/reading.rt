@@ -3,8 +3,9 @@
 ghost use Rattle.std.specs.Prelude.{◌≡◌, ◌≤◌, ◌+◌, ◌<◌, ◌∷◌, ℕ, [], length, Ok, Err, IfOk, IfErr};
 ghost use Rattle.mt_text.specs.Tokens.{tokens};
 ghost use Rattle.mt_text.specs.Forms.{done};
-ghost use Rattle.mt_text.specs.Lines.{run, Continues, Start, Requests, Ended, follows, line, begins_comment, module_of, line_of, Spells, Refuses};
+ghost use Rattle.mt_text.specs.Lines.{run, Continues, Start, Requests, Ended, follows, line, begins_comment, running_module, line_of, Spells, Refuses};
 ghost use Rattle.mt_text.specs.declared.line.Event.{Event};
+ghost use Rattle.mt_text.specs.Accepted.{IsAccepted};
 ghost use Rattle.mt_text.specs.Cursors.{left, end_of, token_view};
 
 use crate::cursor::Cursor;
@@ -43,8 +44,8 @@ fn nothing(cursor: &mut Cursor<'_>, shape: Shape) -> Result<ArrayVec<Request, 16
 }
 
 /// The module of a running event.
-fn module_of(event: &Event) -> Option<Module>
-    ensures { result ≡ module_of event.now }
+fn running_module(event: &Event) -> Option<Module>
+    ensures { result ≡ running_module event.now }
 {
     match event {
         Event::TickRam
@@ -63,7 +64,7 @@ fn behind_event(
 ) -> Result<ArrayVec<Request, 16>, LineRefusal>
     ensures { Continues result (λ rs. Ok (line event.now rs.items)) (run shape (end_of cursor.old) (done (follows event.now)) (left cursor.old)) }
 {
-    match module_of(event) {
+    match running_module(event) {
         Some(callee) => requests(callee, shape, cursor),
         None => nothing(cursor, shape),
     }
@@ -118,6 +119,7 @@ pub fn read_line(text: &[u8], shape: Shape) -> Result<Line, LineRefusal>
     requires { length text.now ≤ 1024 }
     ensures ok { IfOk result (λ line. Spells shape text.now line) }
     ensures err { IfErr result (λ refusal. Refuses shape text.now refusal) }
+    ensures accepted { IfOk result (λ line. IsAccepted shape line) }
 {
     line_of(text, shape)
 }

@@ -1,5 +1,5 @@
 use Rattle.std.proofs.lemmas.Result.{err_from_is_err_and}
-use Rattle.mt_text.specs.Cursors.{left, end_of, token_view}
+use Rattle.mt_text.specs.Cursors.{end_of}
 use Rattle.mt_text.specs.Lines.{app_op}
 use Rattle.mt_port.specs.declared.request.HandlerOp.TheVariants.{App}
 use Rattle.mt_text.proofs.FormLemmas.{mapped_ok_of, mapped_err_of}

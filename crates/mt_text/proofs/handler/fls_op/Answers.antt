@@ -1,7 +1,6 @@
-use Rattle.std.proofs.Common.{refl, sym, ◌∙◌, subst}
+use Rattle.std.proofs.Common.{refl}
 use Rattle.std.proofs.lemmas.Result.{err_from_is_err_and}
-use Rattle.mt_text.specs.Cursors.{left, end_of, token_view}
-use Rattle.mt_text.specs.Forms.{Gives, mapped}
+use Rattle.mt_text.specs.Cursors.{left, end_of}
 use Rattle.mt_text.specs.FlsServices.{fls_handler_call}
 use Rattle.mt_port.specs.declared.request.HandlerOp.TheVariants.{Call}
 use Rattle.mt_text.proofs.FormLemmas.{taken_ok, taken_err, taken_end}

@@ -1,5 +1,4 @@
-use Rattle.std.proofs.Common.{◌≡◌, ◌∙◌, sym, refl, ap, List, Result, Ok, subst}
-use Rattle.mt_text.specs.Cursors.{left, end_of, token_view}
+use Rattle.std.proofs.Common.{◌∙◌, sym, ap, List, Result, Ok}
 use Rattle.mt_text.specs.Lines.{line}
 use Rattle.mt_text.specs.declared.line.Line.{Line}
 use Rattle.mt_port.specs.declared.request.Request.{Request}

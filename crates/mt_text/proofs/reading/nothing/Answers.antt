@@ -1,8 +1,8 @@
-use Rattle.std.proofs.Common.{◌≡◌, ◌∙◌, sym, refl, ap, List, Result, Ok}
+use Rattle.std.proofs.Common.{◌∙◌, sym, ap, List, Result, Ok}
 use Rattle.mt_text.specs.declared.line.Line.{Line}
 use Rattle.mt_port.specs.declared.request.Request.{Request}
 use Rattle.mt_text.specs.declared.line.LineRefusal.{LineRefusal}
-use Rattle.mt_text.specs.Cursors.{left, end_of}
+use Rattle.mt_text.specs.Cursors.{end_of}
 use Rattle.mt_text.specs.Forms.{done}
 use Rattle.mt_text.specs.Lines.{run, Ended, line}
 use Rattle.mt_text.proofs.RunLemmas.{ended_token, ended_end, continues_err}

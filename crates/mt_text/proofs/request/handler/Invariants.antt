@@ -1,4 +1,4 @@
-use Rattle.std.proofs.Common.{◌≡◌, ◌≤◌, ◌+◌, ◌++◌, ◌∷◌, [], true, false, Bool, List, ℕ, length}
+use Rattle.std.proofs.Common.{◌≡◌, ◌≤◌, ◌+◌, true, false, Bool, List, ℕ, length}
 use Rattle.mt_text.specs.Cursors.{left, end_of}
 use Rattle.mt_text.specs.Forms.{done}
 use Rattle.mt_text.specs.Lines.{run, behind_op, Open}

@@ -1,0 +1,5 @@
+pub mod Items
+pub mod Bases
+pub mod Whole
+pub mod Counts
+pub mod Standing
