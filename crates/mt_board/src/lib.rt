@@ -3,5 +3,7 @@
 
 mod board;
 mod stores;
+#[cfg(test)]
+mod tests;
 
 pub use board::SimBoard;

@@ -72,8 +72,8 @@ impl Cells {
         read_word(&self.words, self.width, self.fault, addr)
     }
 
-    #[tactic(auto, using(crate::proofs::Steps::size_after))]
     /// Writes a word, under the fault that is there.
+    #[tactic(auto, using(crate::proofs::Steps::size_after))]
     pub fn write(&mut self, addr: u32, word: u64)
         requires addr { addr < length self.old.words }
         requires word { Fits self.old.width word }
@@ -84,12 +84,12 @@ impl Cells {
         write_word(&mut self.words, self.width, self.fault, addr, word);
     }
 
-    #[tactic(auto, using(crate::proofs::Steps::size_first))]
     /// Puts a fault there, where it is in range, its two addresses differ and none is there; the first of these that
     /// fails is the refusal, and then nothing has changed.
     ///
     /// A stuck-at fault sets its victim at once, and a state coupling fault where its aggressor holds; such a bit
     /// stays when the fault is healed.
+    #[tactic(auto, using(crate::proofs::Steps::size_first))]
     pub fn inject(&mut self, fault: Fault) -> Result<(), FaultRefusal>
         ensures answer { result ≡ injection self.old fault }
         ensures ok { OnOk result (self.new ≡ record self.old { fault = Some fault; words = first_words fault self.old.words }) }
