@@ -8,3 +8,4 @@ pub mod Accepts
 pub mod Sound
 pub mod Parts
 pub mod HexLemmas
+pub mod PieceLemmas

@@ -5,6 +5,7 @@ mod call;
 mod cursor;
 mod entry;
 mod event;
+mod event_text;
 mod handler;
 mod laws;
 mod line;
@@ -19,6 +20,7 @@ mod value;
 pub use laws::{one_line, spelled_lines_are_accepted};
 pub use entry::{entry_text, write_entry};
 pub use line::{Event, FlsCall, Line, LineKind, LineRefusal, RamCall};
+pub use line_text::write_line;
 pub use reading::read_line;
 pub use text::{push_bytes, push_number};
 
