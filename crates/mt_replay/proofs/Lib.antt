@@ -2,3 +2,4 @@ pub mod Feeds
 pub mod Lines
 pub mod Texts
 pub mod Turns
+pub mod Runs

@@ -81,8 +81,7 @@ pub ends_whole : (a b left : Option (List ℕ)) (held held' text text' front : L
     → held ≡ front ++ 10 ∷ held' → text' ≡ text ++ front → WhereTold a (prepend_known held' left) (TakesLine line.Whole text')
 ends_whole a b left held held' text text' front feeds feeds' p q e f =
     WhereTold-then a b (prepend_known held' left) p (WhereTold-then b (prepend_known held left) (prepend_known held' left) q (told_feed left held held' front e) (λ x y z m n. m.0 ∙ n))
-    (λ x y z m n. ap cut (m ∙ ap (λ (l : List ℕ). text ++ l) n ∙ sym (append_assoc text front (10 ∷ z)) ∙ ap (λ (l : List ℕ). l ++ 10 ∷ z) (sym f))
-    ∙ cut-line text' z (subst HasNoFeed (sym f) (HasNoFeed-append text front feeds feeds')))
+    (λ x y z m n. (m ∙ ap (λ (l : List ℕ). text ++ l) n ∙ sym (append_assoc text front (10 ∷ z)) ∙ ap (λ (l : List ℕ). l ++ 10 ∷ z) (sym f), subst HasNoFeed (sym f) (HasNoFeed-append text front feeds feeds')))
 
 pub goes_on : (a b left : Option (List ℕ)) (held held' text text' : List ℕ) → Begun a b text → Filled true b (prepend_known held left)
     → held' ≡ [] → text' ≡ text ++ held → Begun a (prepend_known held' left) text'

@@ -19,15 +19,15 @@ use Rattle.mt_replay.specs.declared.status.Status.TheVariants as status
 use Rattle.mt_replay.specs.Machine.{Machine, Step, step}
 use Rattle.mt_replay.specs.Outcome.{Run, preceded, stepped, answered, judged, done}
 use Rattle.mt_replay.specs.Events.{Steps, Stays}
-use Rattle.mt_replay.specs.Run.{Change, Judging, IsPlain, Answered, Concludes, Refused, Fronts, LineGives, EndGives}
+use Rattle.mt_replay.specs.Run.{Change, Judging, IsPlain, Answered, Concludes, Refused, CutOff, Fronts, LineGives, EndGives}
 use Rattle.mt_replay.proofs.Texts.{entries_text-nil, AppendsFront-after, Logs-append}
 
 -- a line that is judged otherwise, but alike
 pub LineGives-same : (r : Result Turn Fault) (j k : Judging) (m' : Machine) (x : Change) → ((follow : Machine → Run) → k follow ≡ j follow) → LineGives r j m' x → LineGives r k m' x
 LineGives-same (Ok turn.More) j k m' x same p = record { text = p.text; touches = p.touches; written = p.written; taped = p.taped; run = λ follow. same follow ∙ p.run follow }
-LineGives-same (Ok (turn.Ended how)) j k m' x same p = record { more = p.more; run = λ follow. subst (λ (r : Run). Concludes r how m'.board x) (sym (same follow)) (p.run follow) }
+LineGives-same (Ok (turn.Ended how)) j k m' x same p = record { more = p.more; plain = p.plain; text = p.text; touches = p.touches; written = p.written; taped = p.taped; run = λ follow. same follow ∙ p.run follow }
 LineGives-same (Err fault.Read) j k m' x same p = absurd p
-LineGives-same (Err fault.Write) j k m' x same p = λ follow. subst (λ (r : Run). Fronts r x) (sym (same follow)) (p follow)
+LineGives-same (Err fault.Write) j k m' x same p = record { text = p.text; written = p.written; run = λ follow. ((p.run follow).0, ap (λ (r : Run). r.text) (same follow) ∙ (p.run follow).1) }
 
 -- a refusal ends the script, whatever follows
 pub refused_line : (r : Result Turn Fault) (judge : Judging) (run : Run) (m' : Machine) (x : Change) → ((follow : Machine → Run) → judge follow ≡ run) → run.status ≢ status.Done
@@ -35,10 +35,15 @@ pub refused_line : (r : Result Turn Fault) (judge : Judging) (run : Run) (m' : M
 refused_line (Ok turn.More) judge run m' x same other p = absurd p
 refused_line (Ok (turn.Ended how)) judge run m' x same other p = record {
   more = λ e. other (ap (λ (r : Run). r.status) p.is ∙ e);
-  run = λ follow. subst (λ (r : Run). Concludes r how m'.board x) (sym (same follow)) p;
+  plain = p.plain;
+  text = p.text;
+  touches = p.touches;
+  written = p.written;
+  taped = p.taped;
+  run = λ follow. same follow ∙ p.is;
 }
 refused_line (Err fault.Read) judge run m' x same other p = absurd p
-refused_line (Err fault.Write) judge run m' x same other p = λ follow. subst (λ (r : Run). Fronts r x) (sym (same follow)) p
+refused_line (Err fault.Write) judge run m' x same other p = record { text = p.text; written = p.written; run = λ follow. (p.more, ap (λ (r : Run). r.text) (same follow) ∙ p.is) }
 
 -- a line that is answered with some entries
 pub answered_line : (c : Config) (m m' : Machine) (number : ℕ) (line : Line) (entries : List Entry) (x : Change) → Steps c m m' line entries x.tape x.tape'
@@ -55,12 +60,11 @@ answered_line c m m' number line entries x s text e written = record {
 -- a line whose entries could not be written in full
 pub fronted_line : (c : Config) (m m' : Machine) (number : ℕ) (line : Line) (entries : List Entry) (x : Change) → Steps c m m' line entries x.tape x.tape'
     → Rattle.mt_port.specs.Streams.AppendsFront x.held x.held' (entries_text c.shape.width number entries)
-    → (follow : Machine → Run) → Fronts (stepped c m number (step c m line) follow) x
-fronted_line c m m' number line entries x s written follow = record {
+    → CutOff (stepped c m number (step c m line)) x
+fronted_line c m m' number line entries x s written = record {
   text = entries_text c.shape.width number entries;
-  more = (follow m').text;
   written = written;
-  is = ap (λ (o : Option Step). (stepped c m number o follow).text) s.step;
+  run = λ follow. ((follow m').text, ap (λ (o : Option Step). (stepped c m number o follow).text) s.step);
 }
 
 -- a line of a number and a length that may be
@@ -92,3 +96,8 @@ then_end (Err fault.Write) judge m' run x y z eh et ez p q =
       written = AppendsFront-after x.held x.held' y.held' p.text q.text p.written (rw eh at q.written);
       is = ap (λ (r : Run). r.text) (p.run run) ∙ ap (λ (t : List ℕ). p.text ++ t) q.is ∙ sym (append_assoc p.text q.text q.more);
     }
+
+-- a line whose text could not be written in full, before an end
+pub cut_off_end : (f : Fault) (judge : Judging) (follow : Machine → Run) (m' : Machine) (x : Change) → LineGives (Err f) judge m' x → EndGives (Err f) (judge follow) m' x
+cut_off_end fault.Read judge follow m' x p = absurd p
+cut_off_end fault.Write judge follow m' x p = record { text = p.text; more = (p.run follow).0; written = p.written; is = (p.run follow).1 }

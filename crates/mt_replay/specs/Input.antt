@@ -41,7 +41,7 @@ BeginsTooLong (first ∷ more) rest = 1024 < length first
 
 -- what the reading of a line took from the bytes that were left
 abbrev pub TakesLine : Line → (text before after : List ℕ) → Type 0
-TakesLine line.Whole text before after = cut before ≡ led text (cut after)
+TakesLine line.Whole text before after = (before ≡ text ++ 10 ∷ after) × HasNoFeed text
 TakesLine line.Last text before after = (before ≡ text) × HasNoFeed text × (0 < length text) × (after ≡ [])
 TakesLine line.End text before after = (before ≡ []) × (after ≡ [])
 TakesLine line.TooLong text before after = BeginsTooLong (cut before).lines (cut before).rest

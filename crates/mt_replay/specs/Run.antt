@@ -37,13 +37,19 @@ pub record Change : Type 0 where
   pub tape : Option (List Touch)
   pub tape' : Option (List Touch)
 
+-- The bytes between here and there give a text and accesses, and then what the bytes behind them give, whichever these are.
+pub record Crosses (c : Config) (m m' : Machine) (number number' : ℕ) (text : List ℕ) (touches : List Touch) (before after : List ℕ) : Type 0 where
+  pub front : List ℕ
+  pub taken : before ≡ front ++ after
+  pub run : (ending : Ending) (rest : List ℕ) → run_script ending c m number (cut (front ++ rest)) ≡ preceded text touches (run_script ending c m' number' (cut rest))
+
 -- From here to there some text was written and some accesses were made, and what the script gives is these and then what the rest of it gives.
 pub record Goes (c : Config) (m m' : Machine) (number number' : ℕ) (x : Change) : Type 0 where
   pub text : List ℕ
   pub touches : List Touch
   pub written : Appends x.held x.held' text
   pub taped : Logs x.tape x.tape' touches
-  pub run : WhereTold x.left x.left' (λ before after. (ending : Ending) → run_script ending c m number (cut before) ≡ preceded text touches (run_script ending c m' number' (cut after)))
+  pub run : WhereTold x.left x.left' (Crosses c m m' number number' text touches)
 
 -- an end that is no fault
 abbrev pub IsPlain : Status → Type 0
@@ -65,14 +71,19 @@ pub record Ends (c : Config) (m : Machine) (number : ℕ) (board : Board) (how :
   pub run : WhereTold x.left x.left' (λ before after. run_script Finished c m number (cut before) ≡ record { text = text; touches = touches; status = how; board = board })
   pub all : how ≡ status.Done → WhereTold x.left x.left' (λ before after. after ≡ [])
 
+-- Some bytes were taken, and then the source failed.
+pub record Breaking (c : Config) (m : Machine) (number : ℕ) (text : List ℕ) (touches : List Touch) (board : Board) (before after : List ℕ) : Type 0 where
+  pub front : List ℕ
+  pub taken : before ≡ front ++ after
+  pub run : run_script Failed c m number (cut front) ≡ record { text = text ++ read_fault_text; touches = touches; status = status.ReadFault; board = board }
+
 -- The source failed: the bytes that were taken give the text that was written, and then the text of the fault.
 pub record Breaks (c : Config) (m : Machine) (number : ℕ) (board : Board) (x : Change) : Type 0 where
   pub text : List ℕ
   pub touches : List Touch
   pub written : Appends x.held x.held' text
   pub taped : Logs x.tape x.tape' touches
-  pub run : WhereTold x.left x.left' (λ before after. (taken : List ℕ) × (before ≡ taken ++ after)
-      × (run_script Failed c m number (cut taken) ≡ record { text = text ++ read_fault_text; touches = touches; status = status.ReadFault; board = board }))
+  pub run : WhereTold x.left x.left' (Breaking c m number text touches board)
 
 -- The sink failed: a front of what the script gives was written.
 pub record Stops (c : Config) (m : Machine) (number : ℕ) (x : Change) : Type 0 where
@@ -104,7 +115,18 @@ pub record Concludes (run : Run) (how : Status) (board : Board) (x : Change) : T
 -- One that is refused ends the script, whatever follows it.
 pub record Refused (judge : Judging) (how : Status) (board : Board) (x : Change) : Type 0 where
   pub more : how ≢ status.Done
-  pub run : (follow : Machine → Run) → Concludes (judge follow) how board x
+  pub plain : IsPlain how
+  pub text : List ℕ
+  pub touches : List Touch
+  pub written : Appends x.held x.held' text
+  pub taped : Logs x.tape x.tape' touches
+  pub run : (follow : Machine → Run) → judge follow ≡ record { text = text; touches = touches; status = how; board = board }
+
+-- One whose text could not be written in full, whatever follows it.
+pub record CutOff (judge : Judging) (x : Change) : Type 0 where
+  pub text : List ℕ
+  pub written : AppendsFront x.held x.held' text
+  pub run : (follow : Machine → Run) → (more : List ℕ) × ((judge follow).text ≡ text ++ more)
 
 -- A front of what a run gives was written.
 pub record Fronts (run : Run) (x : Change) : Type 0 where
@@ -118,7 +140,7 @@ abbrev pub LineGives : Result Turn Fault → Judging → Machine → Change → 
 LineGives (Ok turn.More) judge m' x = Answered judge m' x
 LineGives (Ok (turn.Ended how)) judge m' x = Refused judge how m'.board x
 LineGives (Err fault.Read) judge m' x = ⊥
-LineGives (Err fault.Write) judge m' x = (follow : Machine → Run) → Fronts (judge follow) x
+LineGives (Err fault.Write) judge m' x = CutOff judge x
 
 -- what came of a run's end
 abbrev pub EndGives : Result Turn Fault → Run → Machine → Change → Type 0

@@ -1,13 +1,10 @@
 //! Runs the lines of a script.
 
-ghost use Rattle.std.specs.Prelude.{◌≡◌, ◌<◌, ◌≤◌, ◌+◌, ◌++◌, ℕ, [], ◌∷◌, None, length, OnOk, OnErr, IfOk};
+ghost use Rattle.std.specs.Prelude.{◌≡◌, ◌<◌, ◌≤◌, ◌+◌, ◌++◌, ℕ, [], ◌∷◌, ◌≢◌, None, Ok, Err, length, OnOk, OnErr, IfOk};
 ghost use Rattle.std.specs.Io.KnownBytes.{prepend_known, Appends};
 ghost use Rattle.mt_port.specs.Causes.{HasCause};
 ghost use Rattle.mt_port.specs.Streams.{AppendsFront, WhereTold};
 ghost use Rattle.mt_text.specs.Accepted.{IsAccepted as IsAcceptedLine};
-ghost use Rattle.mt_text.specs.Lines.{line_of};
-ghost use Rattle.mt_text.specs.Trace.{entries_text, entry_text};
-ghost use Rattle.mt_window.specs.declared.log.Entry.TheVariants.{Own};
 ghost use Rattle.mt_replay.specs.Machine.{Machine, IsReady, step};
 ghost use Rattle.mt_replay.specs.Outcome.{done_text, refused_text, kind_number, done, refused, stepped, judged};
 ghost use Rattle.mt_replay.specs.Events.{AnswerGives};
@@ -22,7 +19,7 @@ use crate::text::{Text, done_text, refused_text};
 use arrayvec::ArrayVec;
 use mt_port::{Bench, Sink, Source, put};
 use mt_text::{Line, LineKind, read_line, write_entry};
-use mt_window::{Entry, Reply};
+use mt_window::Entry;
 
 /// A source or a sink failed.
 #[derive(Clone, Copy, Debug, PartialEq, Eq)]
@@ -110,18 +107,6 @@ fn refuse_turn<K: Sink>(sink: &mut K, line: u32, code: u8, place: u32) -> Result
     Ok(Turn::Ended(refuse(sink, line, code, place)?))
 }
 
-// Writes the own reply of a line.
-fn write_reply<K: Sink>(config: &Config, sink: &mut K, number: u32, reply: Reply) -> Result<(), Fault>
-    ensures ok { OnOk result (Appends (K.held sink.old) (K.held sink.new) (entries_text config.now.shape.width number (Own reply ∷ []))) }
-    ensures err { OnErr result (AppendsFront (K.held sink.old) (K.held sink.new) (entries_text config.now.shape.width number (Own reply ∷ []))) }
-    ensures cause { SinkCaused result (K.faults sink.old) (K.faults sink.new) }
-{
-    match write_entry(number, &Entry::Own(reply), config.shape.width, sink) {
-        Ok(()) => Ok(()),
-        Err(_) => Err(Fault::Write),
-    }
-}
-
 // Does what an accepted line asks for, and writes its entries.
 fn answer_line<K: Sink, B: Bench>(
     config: &Config,
@@ -141,8 +126,10 @@ fn answer_line<K: Sink, B: Bench>(
     match perform(config, ram, board, line) {
         Answer::Silent => Ok(Turn::More),
         Answer::Own(reply) => {
-            write_reply(config, sink, number, reply)?;
-            Ok(Turn::More)
+            match write_entry(number, &Entry::Own(reply), config.shape.width, sink) {
+                Ok(()) => Ok(Turn::More),
+                Err(_) => Err(Fault::Write),
+            }
         }
         Answer::Unknown => refuse_turn(sink, number, 1, 1),
     }
@@ -188,8 +175,85 @@ fn last_line<K: Sink, B: Bench>(
         (record { left = None; left' = None; held = K.held sink.old; held' = K.held sink.new; tape = B.tape board.old; tape' = B.tape board.new }) }
     ensures cause { SinkCaused result (K.faults sink.old) (K.faults sink.new) }
 {
-    match judge_line(config, ram, board, sink, text, number)? {
-        Turn::More => finish_turn(sink, number),
-        Turn::Ended(status) => Ok(Turn::Ended(status)),
+    match judge_line(config, ram, board, sink, text, number) {
+        Ok(Turn::More) => finish_turn(sink, number),
+        Ok(Turn::Ended(status)) => Ok(Turn::Ended(status)),
+        Err(fault) => Err(fault),
+    }
+}
+
+// Runs the next line, or ends the script.
+fn run_line<S: Source, K: Sink, B: Bench>(
+    config: &Config,
+    ram: &mut Ram,
+    board: &mut B,
+    input: &mut Input,
+    source: &mut S,
+    sink: &mut K,
+    number: u32,
+) -> Result<Turn, Fault>
+    requires ready { IsReady config.now (record { board = B.state board.old; ram = ram.old }) }
+    requires first { 1 ≤ number }
+    requires few { number ≤ 1000000 }
+    ensures ready { IsReady config.now (record { board = B.state board.new; ram = ram.new }) }
+    ensures gives { TurnGives result config.now (record { board = B.state board.old; ram = ram.old }) (record { board = B.state board.new; ram = ram.new }) number
+        (record { left = prepend_known input.old (S.left source.old); left' = prepend_known input.new (S.left source.new); held = K.held sink.old; held' = K.held sink.new; tape = B.tape board.old; tape' = B.tape board.new }) }
+    ensures none { result ≡ Err Fault.Read → input.new ≡ [] }
+    ensures cause { Caused result (S.faults source.old) (S.faults source.new) (K.faults sink.old) (K.faults sink.new) }
+{
+    let mut text: LineText = ArrayVec::new();
+    let Ok(reading) = input.read_line(source, &mut text) else {
+        return Err(Fault::Read);
+    };
+    match reading {
+        Reading::Whole => judge_line(config, ram, board, sink, &text, number),
+        Reading::Last => last_line(config, ram, board, sink, &text, number),
+        Reading::End => finish_turn(sink, number - 1),
+        Reading::TooLong => refuse_turn(sink, number, 10, 1025),
+    }
+}
+
+// What comes behind the last line that may be: the end, or a line too many.
+fn run_past<S: Source, K: Sink>(input: &mut Input, source: &mut S, sink: &mut K) -> Result<Turn, Fault>
+    ensures gives { (c : _) (m : Machine) (told : _) → TurnGives result c m m 1000001
+        (record { left = prepend_known input.old (S.left source.old); left' = prepend_known input.new (S.left source.new); held = K.held sink.old; held' = K.held sink.new; tape = told; tape' = told }) }
+    ensures ended { result ≢ Ok Turn.More }
+    ensures none { result ≡ Err Fault.Read → input.new ≡ [] }
+    ensures cause { Caused result (S.faults source.old) (S.faults source.new) (K.faults sink.old) (K.faults sink.new) }
+{
+    match input.fill(source) {
+        Ok(true) => refuse_turn(sink, 1_000_001, 11, 1),
+        Ok(false) => finish_turn(sink, 1_000_000),
+        Err(_) => Err(Fault::Read),
+    }
+}
+
+/// Runs the lines that the source has left, and writes their trace.
+pub fn run_script<S: Source, K: Sink, B: Bench>(
+    config: &Config,
+    ram: &mut Ram,
+    board: &mut B,
+    input: &mut Input,
+    source: &mut S,
+    sink: &mut K,
+) -> Result<Status, Fault>
+    requires { IsReady config.now (record { board = B.state board.old; ram = ram.old }) }
+    ensures ready { IsReady config.now (record { board = B.state board.new; ram = ram.new }) }
+    ensures gives { ScriptGives result config.now (record { board = B.state board.old; ram = ram.old }) (record { board = B.state board.new; ram = ram.new }) 1
+        (record { left = prepend_known input.old (S.left source.old); left' = prepend_known input.new (S.left source.new); held = K.held sink.old; held' = K.held sink.new; tape = B.tape board.old; tape' = B.tape board.new }) }
+    ensures none { result ≡ Err Fault.Read → input.new ≡ [] }
+    ensures cause { Caused result (S.faults source.old) (S.faults source.new) (K.faults sink.old) (K.faults sink.new) }
+{
+    for number in 1..=1_000_000 {
+        match run_line(config, ram, board, input, source, sink, number) {
+            Ok(Turn::More) => {}
+            Ok(Turn::Ended(status)) => return Ok(status),
+            Err(fault) => return Err(fault),
+        }
+    }
+    match run_past(input, source, sink) {
+        Ok(Turn::Ended(status)) => Ok(status),
+        Ok(Turn::More) => unreachable!(),
+        Err(fault) => Err(fault),
     }
 }
