@@ -1,0 +1,4 @@
+pub mod Feeds
+pub mod Lines
+pub mod Texts
+pub mod Turns

@@ -1,0 +1,11 @@
+pub mod TokenLemmas
+pub mod FormLemmas
+pub mod LineLemmas
+pub mod RunLemmas
+pub mod Readings
+pub mod Numbers
+pub mod Accepts
+pub mod Sound
+pub mod Parts
+pub mod HexLemmas
+pub mod PieceLemmas

@@ -1,0 +1,22 @@
+use Rattle.std.proofs.Common.{◌≡◌, ◌≤◌, ◌+◌, true, false, Bool, List, ℕ, length}
+use Rattle.mt_text.specs.Cursors.{left, end_of}
+use Rattle.mt_text.specs.Forms.{done}
+use Rattle.mt_text.specs.Lines.{run, behind_op, Open}
+use Rattle.mt_text.specs.declared.line.Event.{Event}
+use Rattle.mt_port.specs.declared.request.Request.{Request}
+use Rattle.mt_text.proofs.request.handler.Given as goal
+
+abbrev pub to_do : Bool → ℕ → ℕ
+to_do true n = n
+to_do false n = n + 1
+
+abbrev pub invariant-loop-ended : goal.invariant-loop-ended
+invariant-loop-ended l = record {
+  same : (ev : Event) (rs : List Request) (n : ℕ) → run l.shape (end_of l.cursor) (done (behind_op l.ended l.callee ev rs n l.ops.items)) (left l.cursor) ≡ run l.shape (end_of l.initial.cursor) (done (Open l.callee ev rs n)) (left l.initial.cursor);
+  end : end_of l.cursor ≡ end_of l.initial.cursor;
+  shorter : length (left l.cursor) ≤ length (left l.initial.cursor);
+  few : length l.ops.items ≤ 8;
+}
+
+abbrev pub decreases-loop-ended : goal.decreases-loop-ended
+decreases-loop-ended l = to_do l.ended (length (left l.cursor))

@@ -1,0 +1,10 @@
+pub mod Tokens
+pub mod Cursors
+pub mod Forms
+pub mod RamServices
+pub mod FlsServices
+pub mod Lines
+pub mod Accepted
+pub mod Digits
+pub mod Trace
+pub mod Canonical

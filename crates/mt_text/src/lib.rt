@@ -1,0 +1,28 @@
+//! Script lines and trace lines.
+#![tactic(auto)]
+
+mod call;
+mod cursor;
+mod entry;
+mod event;
+mod event_text;
+mod handler;
+mod laws;
+mod line;
+mod line_text;
+mod names;
+mod reading;
+mod request;
+mod text;
+mod token;
+mod value;
+
+pub use laws::{one_line, spelled_lines_are_accepted};
+pub use entry::{entry_text, write_entry};
+pub use line::{Event, FlsCall, Line, LineKind, LineRefusal, RamCall};
+pub use line_text::write_line;
+pub use reading::read_line;
+pub use text::{push_bytes, push_number};
+
+#[cfg(test)]
+mod tests;

@@ -1,0 +1,84 @@
+//! Canonical lines.
+
+ghost use Rattle.std.specs.Prelude.{◌≡◌, ◌≤◌, ◌+◌, ◌*◌, ◌++◌, ◌∷◌, [], codes, decimal, length, OnOk, OnErr};
+ghost use Rattle.std.specs.Io.KnownBytes.{Appends};
+ghost use Rattle.mt_port.specs.Causes.{HasCause};
+ghost use Rattle.mt_port.specs.Streams.{AppendsFront};
+ghost use Rattle.mt_text.specs.Canonical.{text_of, further_ops, handler_pieces, request_pieces, requests_pieces, canonical};
+
+use crate::event_text::{LineText, push_event, push_op};
+use crate::line::Line;
+use crate::text::{push_bytes, push_number};
+use arrayvec::ArrayVec;
+use mt_port::{Failed, HandlerOp, Request, Shape, Sink, put};
+use mt_word::Width;
+
+/// Appends the operations behind the first, and the closing bracket.
+fn push_further_ops(out: &mut LineText, width: Width, ops: &[HandlerOp])
+    requires { length out.old.items + 43 * length ops.now + 1 ≤ 6144 }
+    ensures text { out.new.items ≡ out.old.items ++ text_of (further_ops width ops.now) }
+    ensures short { length out.new.items ≤ length out.old.items + 43 * length ops.now + 1 }
+{
+    for op in ops {
+        out.push(b';');
+        push_op(out, true, width, *op);
+    }
+    out.push(b']');
+}
+
+/// Appends a handler, where it has operations.
+fn push_handler(out: &mut LineText, width: Width, ops: &[HandlerOp])
+    requires few { length ops.now ≤ 8 }
+    requires room { length out.old.items + 346 ≤ 6144 }
+    ensures text { out.new.items ≡ out.old.items ++ text_of (handler_pieces width ops.now) }
+    ensures short { length out.new.items ≤ length out.old.items + 346 }
+{
+    if let [op, further @ ..] = ops {
+        out.push(b'[');
+        push_op(out, false, width, *op);
+        push_further_ops(out, width, further);
+    }
+}
+
+fn push_request(out: &mut LineText, width: Width, request: &Request)
+    requires { length out.old.items + 358 ≤ 6144 }
+    ensures text { out.new.items ≡ out.old.items ++ text_of (request_pieces width request.now) }
+    ensures short { length out.new.items ≤ length out.old.items + 358 }
+{
+    push_bytes(out, b" @");
+    push_number(out, request.offset);
+    push_handler(out, width, request.ops.as_slice());
+}
+
+fn push_requests(out: &mut LineText, width: Width, requests: &[Request])
+    requires few { length requests.now ≤ 16 }
+    requires room { length out.old.items + 5728 ≤ 6144 }
+    ensures text { out.new.items ≡ out.old.items ++ text_of (requests_pieces width requests.now) }
+    ensures short { length out.new.items ≤ length out.old.items + 5728 }
+{
+    for request in requests {
+        push_request(out, width, request);
+    }
+}
+
+/// The canonical text of a line, with a line feed.
+#[tactic(auto, unfolding(crate::specs::Canonical::canonical))]
+fn line_text(line: &Line, width: Width) -> LineText
+    ensures { result.items ≡ canonical width line.now ++ codes "\n" }
+{
+    let mut out = ArrayVec::new();
+    push_event(&mut out, width, line.event);
+    push_requests(&mut out, width, line.requests.as_slice());
+    out.push(b'\n');
+    out
+}
+
+/// Writes the canonical text of a line, with a line feed.
+pub fn write_line<K: Sink>(line: &Line, shape: Shape, sink: &mut K) -> Result<(), Failed>
+    ensures ok { OnOk result (Appends (K.held sink.old) (K.held sink.new) (canonical shape.width line.now ++ codes "\n")) }
+    ensures err { OnErr result (AppendsFront (K.held sink.old) (K.held sink.new) (canonical shape.width line.now ++ codes "\n")) }
+    ensures cause { HasCause (K.faults sink.old) (K.faults sink.new) result }
+{
+    let text = line_text(line, shape.width);
+    put(sink, &text)
+}
