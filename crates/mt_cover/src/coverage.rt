@@ -2,8 +2,7 @@
 
 ghost use Rattle.std.specs.Prelude.{◌≡◌, ◌↔◌, IsTrue, [], ◌∷◌};
 ghost use Rattle.mt_march.specs.Known.{march_c_minus};
-ghost use Rattle.mt_march.specs.Value.{element};
-ghost use Rattle.mt_plan.specs.Plan.{IsAccepted};
+ghost use Rattle.mt_march.specs.Value.{element as element_of};
 ghost use Rattle.mt_cover.specs.Coverage.{IsTabled, Coverage};
 
 use crate::class::Class;
@@ -12,7 +11,7 @@ use mt_plan::Algorithm;
 
 /// Whether the element has this order and this operation alone.
 fn is_single(element: &Element, order: Order, op: Op) -> bool
-    ensures { IsTrue result ↔ (element.now ≡ element order (op ∷ [])) }
+    ensures { IsTrue result ↔ (element.now ≡ element_of order (op ∷ [])) }
 {
     match element.ops.as_slice() {
         [only] => element.order == order && *only == op,
@@ -22,7 +21,7 @@ fn is_single(element: &Element, order: Order, op: Op) -> bool
 
 /// Whether the element has this order and these two operations.
 fn is_pair(element: &Element, order: Order, first: Op, second: Op) -> bool
-    ensures { IsTrue result ↔ (element.now ≡ element order (first ∷ second ∷ [])) }
+    ensures { IsTrue result ↔ (element.now ≡ element_of order (first ∷ second ∷ [])) }
 {
     match element.ops.as_slice() {
         [a, b] => element.order == order && *a == first && *b == second,
@@ -50,7 +49,6 @@ fn is_march_c_minus(march: &March) -> bool
 /// Whether the table of coverage says that the algorithm catches each fault of the class.
 /// Where it does not, nothing is claimed. No decoder fault is in the table.
 pub fn covers(algorithm: &Algorithm, class: Class) -> bool
-    requires { IsAccepted algorithm.now }
     ensures { IsTrue result ↔ IsTabled algorithm.now class }
 {
     match algorithm {
