@@ -1,5 +1,5 @@
 -- What is caught on the fault's cells alone, in each order, is caught in each slice.
-use Rattle.std.proofs.Common.{subst, ℕ, ◌≡◌, ◌≢◌, ◌+◌, ◌-◌, ◌<◌, ◌≤◌, Bool, true, false, List, [], ◌∷◌, refl, arith, ap, sym, ◌∙◌, inl, inr}
+use Rattle.std.proofs.Common.{subst, ℕ, ◌≡◌, ◌≢◌, ◌+◌, ◌-◌, ◌<◌, Bool, true, List, [], ◌∷◌, arith, sym, inl, inr}
 use Rattle.std.specs.List.{flat_map}
 use Rattle.std.proofs.lemmas.Bool.{and_parts, cases_order}
 use Rattle.mt_word.specs.declared.Width.{Width}
@@ -70,4 +70,4 @@ covered_two on p s f r agg vic agg_bit vic_bit h in_a bit_a in_v bit_v ne model 
     let lt_a : a < s.n = omega (arith, in_a.from, in_a.below) in
     always_caught-fails s.width s.first s.back f words r agg vic (agg_bit words) (vic_bit words) a v (model words) at_a at_v (s.fits a lt_a) (s.fits v lt_v) bit_a bit_v (on (cells s.n)) earlier
     (λ ba bv x y. p r a v (cells s.n) ba bv x y
-      (in_both (λ ds. AlwaysCaught r (on ds)) a v s.n (always_at r (on (0 ∷ 1 ∷ [])) (and_parts _ _ h).0) (always_at r (on (1 ∷ 0 ∷ [])) (and_parts _ _ h).1) (λ same. ne (omega arith)) lt_a lt_v ba bv x y))
+    (in_both (λ ds. AlwaysCaught r (on ds)) a v s.n (always_at r (on (0 ∷ 1 ∷ [])) (and_parts _ _ h).0) (always_at r (on (1 ∷ 0 ∷ [])) (and_parts _ _ h).1) (λ same. ne (omega arith)) lt_a lt_v ba bv x y))

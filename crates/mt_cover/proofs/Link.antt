@@ -1,7 +1,7 @@
 -- What is caught on the cells of a fault, by bits, is caught on all cells.
 use Rattle.std.proofs.Common.{ℕ, ◌≡◌, ◌≢◌, ◌+◌, ◌-◌, ◌<◌, Bool, true, false, List, [], ◌∷◌, map, refl, arith, ap, sym, ◌∙◌, subst, inl, inr, Some}
 use mathlib.Core.Bool.{beq}
-use Rattle.std.specs.Prelude.{◌==◌, ◌&&◌, ◌||◌, not}
+use Rattle.std.specs.Prelude.{◌==◌, ◌&&◌, not}
 use Rattle.std.proofs.lemmas.Bool.{eq-eqb, ne_eqb, or_cases, cases_eq}
 use Rattle.std.proofs.lemmas.Nat.Bits.{bit_at_not, bit_at-lt}
 use Rattle.std.proofs.lemmas.Bool.Decides.{nat_tests}
@@ -20,7 +20,7 @@ use Rattle.mt_plan.specs.declared.algorithm.Act.TheVariants.{WritePlain, WriteFl
 use Rattle.mt_plan.specs.declared.algorithm.Step.{Step}
 use Rattle.mt_plan.specs.Lists.{step}
 use Rattle.mt_cover.specs.Coverage.{item_of}
-use Rattle.mt_cover.proofs.Model.{Rule, own, other, shows, caught, pick, project, IsModel, AlwaysCaught}
+use Rattle.mt_cover.proofs.Model.{Rule, own, other, shows, caught, project, IsModel, AlwaysCaught}
 
 not_one : (t : ℕ) → t < 2 → ((1 - t) == 1) ≡ not (t == 1)
 not_one t h = grind (arith, nat_tests)
@@ -69,7 +69,7 @@ module _ (width : Width) (first : ℕ) (back : ℕ → ℕ) (f : Fault) (words :
   other_word : (h : History) (x : ℕ) (b : Bool) → has_bit x vic.bit ≡ b → not (beq (shows r (agg_bit h) (vic_bit h)) b) ≡ true → (answer (Some f) words h (first + v) == x) ≡ false
   other_word h x b is ne =
       ne_eqb _ _ (λ e. differs_from (shows r (agg_bit h) (vic_bit h)) b ne
-        (sym (model.shown h) ∙ ap (λ (w : ℕ). has_bit (answer (Some f) words h w) vic.bit) (sym at_vic) ∙ ap (λ (y : ℕ). has_bit y vic.bit) e ∙ is))
+      (sym (model.shown h) ∙ ap (λ (w : ℕ). has_bit (answer (Some f) words h w) vic.bit) (sym at_vic) ∙ ap (λ (y : ℕ). has_bit y vic.bit) e ∙ is))
 
   after_write_own : (h : History) (x : ℕ) (b : Bool) (l : List Step) → has_bit x vic.bit ≡ b → Later l → Caught (agg_bit h) (own r b (agg_bit h) (vic_bit h)) (project a v l) → Fails (Write (first + v) x ∷ h) l
   after_write_own h x b l is next c =
@@ -123,10 +123,10 @@ module _ (width : Width) (first : ℕ) (back : ℕ → ℕ) (f : Fault) (words :
       elim (cases_eq t.cell v) [
         | inl is_v ↦ (let p : (t.cell == v) ≡ true = eq-eqb _ _ is_v in subst (λ (x : ℕ). Fails h (step x t.act ∷ l)) (sym is_v) (at_victim t.act l h next (rw p at c)))
         | inr not_v ↦ (let p : (t.cell == v) ≡ false = ne_eqb _ _ not_v in
-          elim (cases_eq t.cell a) [
-            | inl is_a ↦ (let q : (t.cell == a) ≡ true = eq-eqb _ _ is_a in subst (λ (x : ℕ). Fails h (step x t.act ∷ l)) (sym is_a) (at_aggressor t.act l h (λ e. not_v (is_a ∙ e)) next (rw (p, q) at c)))
-            | inr not_a ↦ (let q : (t.cell == a) ≡ false = ne_eqb _ _ not_a in at_other t.cell t.act l h not_a not_v next (rw (p, q) at c))
-          ])
+            elim (cases_eq t.cell a) [
+              | inl is_a ↦ (let q : (t.cell == a) ≡ true = eq-eqb _ _ is_a in subst (λ (x : ℕ). Fails h (step x t.act ∷ l)) (sym is_a) (at_aggressor t.act l h (λ e. not_v (is_a ∙ e)) next (rw (p, q) at c)))
+              | inr not_a ↦ (let q : (t.cell == a) ≡ false = ne_eqb _ _ not_a in at_other t.cell t.act l h not_a not_v next (rw (p, q) at c))
+            ])
       ]
 
   pub caught-fails : (l : List Step) (h : History) → Caught (agg_bit h) (vic_bit h) (project a v l) → Fails h l

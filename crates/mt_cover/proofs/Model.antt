@@ -1,16 +1,14 @@
 -- A fault by the bits at its two spots: cell 1 is the victim's, and cell 0 the aggressor's.
 use Rattle.std.proofs.Common.{ℕ, ◌≡◌, ◌≢◌, Bool, true, false, List, [], ◌∷◌, Some}
-use Rattle.std.specs.Prelude.{◌==◌, ◌&&◌, ◌||◌, not, if◌then◌else◌, map}
-use Rattle.std.specs.List.{flat_map}
+use Rattle.std.specs.Prelude.{◌==◌, ◌&&◌, ◌||◌, not, if◌then◌else◌}
 use mathlib.Core.Bool.{beq}
 use Rattle.mt_word.specs.Word.{has_bit}
 use Rattle.mt_fault.specs.declared.fault.Spot.{Spot}
 use Rattle.mt_fault.specs.declared.fault.Fault.{Fault}
 use Rattle.mt_fault.specs.History.{History, Read, Write}
 use Rattle.mt_fault.specs.Faulty.{same, answer}
-use Rattle.mt_plan.specs.declared.algorithm.Act.{Act}
 use Rattle.mt_plan.specs.declared.algorithm.Step.{Step}
-use Rattle.mt_plan.specs.Lists.{is_write, is_flipped, step}
+use Rattle.mt_plan.specs.Lists.{is_write, is_flipped}
 use Rattle.mt_plan.proofs.KeptCells.{renamed}
 
 -- what a fault does to the bit of its victim

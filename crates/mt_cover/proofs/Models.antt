@@ -1,19 +1,18 @@
 -- Each fault of one bit goes by its rule.
-use Rattle.std.proofs.Common.{ℕ, ◌≡◌, ◌≢◌, Bool, true, false, List, [], ◌∷◌, refl, ap, sym, ◌∙◌, Some, eqb, cond}
-use Rattle.std.specs.Prelude.{◌==◌}
-use Rattle.std.proofs.lemmas.Bool.{eq-eqb, ne_eqb, cases_Bool}
+use Rattle.std.proofs.Common.{ℕ, ◌≡◌, ◌≢◌, Bool, true, false, List, ◌∷◌, refl, ap, sym, ◌∙◌, Some, eqb, cond}
+use Rattle.std.proofs.lemmas.Bool.{eq-eqb, ne_eqb}
 use Rattle.mt_word.specs.Word.{has_bit}
 use Rattle.mt_fault.specs.declared.fault.Spot.{Spot}
 use Rattle.mt_fault.specs.declared.fault.Fault.{Fault}
 use Rattle.mt_fault.specs.declared.fault.Fault.TheVariants.{StuckAt, CannotRise, CannotFall, Invert, Force, State}
 use Rattle.mt_fault.specs.History.{History, Read, Write, plain}
-use Rattle.mt_fault.specs.Faulty.{same, asked, coupled, stored_under, stored, answer, answer_under}
-use Rattle.mt_fault.specs.Rules.{agg_of, vic_of, is_of_bit}
+use Rattle.mt_fault.specs.Faulty.{same, asked, coupled, stored_under, stored, answer_under}
+use Rattle.mt_fault.specs.Rules.{vic_of}
 use Rattle.mt_fault.proofs.LastAccess.{bit_after, last_write}
 use Rattle.mt_fault.proofs.Bits.{victim_bit}
 use Rattle.mt_fault.proofs.Cut.{coupled_now}
 use Rattle.mt_fault.proofs.Steps.{stored_read}
-use Rattle.mt_cover.proofs.Model.{Rule, stuck, no_rise, no_fall, inverts, forces, holds, own, other, shows, IsModel}
+use Rattle.mt_cover.proofs.Model.{stuck, no_rise, no_fall, inverts, forces, holds, IsModel}
 
 -- the victim's bit after a read
 bit_read : (f : Fault) (words : List ℕ) (a : ℕ) (h : History) → bit_after f words (Read a ∷ h) ≡ bit_after f words h

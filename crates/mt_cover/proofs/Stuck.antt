@@ -1,8 +1,8 @@
 -- Each accepted march catches each stuck-at fault.
-use Rattle.std.proofs.Common.{ℕ, ◌≡◌, Bool, true, false, List, [], ◌∷◌, ◌++◌, map, refl, ap, sym, ◌∙◌, ◌⊎◌, inl, inr}
+use Rattle.std.proofs.Common.{◌≡◌, Bool, true, false, List, [], ◌∷◌, ◌++◌, refl, ap, sym, ◌∙◌, ◌⊎◌, inl, inr}
 use mathlib.Core.Bool.{beq}
-use Rattle.std.specs.Prelude.{◌==◌, ◌&&◌, ◌||◌, not}
-use Rattle.std.specs.List.{flat_map, list_any}
+use Rattle.std.specs.Prelude.{◌==◌, ◌&&◌, not}
+use Rattle.std.specs.List.{list_any}
 use Rattle.std.proofs.lemmas.Bool.{or_cases, or_left, or_right, false≢true}
 use Rattle.std.proofs.lemmas.List.{map-append}
 use mathlib.Core.List.{append-nil}
@@ -13,8 +13,8 @@ use Rattle.mt_march.specs.declared.march.Op.TheVariants.{R0, R1, W0, W1}
 use Rattle.mt_march.specs.declared.march.Element.{Element}
 use Rattle.mt_march.specs.Accepted.{operations, writes, is_one, reads}
 use Rattle.mt_plan.specs.declared.algorithm.Step.{Step}
-use Rattle.mt_plan.specs.Lists.{act_of, is_write, step, ops_on, in_order, element_on, march_on}
-use Rattle.mt_cover.proofs.Model.{Rule, stuck, flipped_if, wanted, agg_after, vic_after, misses, caught}
+use Rattle.mt_plan.specs.Lists.{act_of, is_write, step, ops_on, in_order, march_on}
+use Rattle.mt_cover.proofs.Model.{stuck, flipped_if, wanted, agg_after, vic_after, caught}
 
 -- a read of the victim that wants another bit than b
 abbrev shows_other : Bool → Bool → Bool → Step → Bool
@@ -68,7 +68,7 @@ pub march_stuck : (b ba bv a v : Bool) (m : List Element) → reads false (opera
 march_stuck b ba bv a v m zeros ones =
     rw (on_one_cell m)
     (stuck_caught b ba bv a v (ops_on (operations m) 1)
-      (elim (either b bv) [
-        | inl ne ↦ ops_show b ba bv false (operations m) ne zeros
-        | inr ne ↦ ops_show b ba bv true (operations m) ne ones
-      ]))
+    (elim (either b bv) [
+      | inl ne ↦ ops_show b ba bv false (operations m) ne zeros
+      | inr ne ↦ ops_show b ba bv true (operations m) ne ones
+    ]))

@@ -1,12 +1,11 @@
 -- The whole table.
-use Rattle.std.proofs.Common.{ℕ, ◌≡◌, ◌≢◌, ◌+◌, ◌<◌, zero, suc, Bool, true, false, List, [], ◌∷◌, ◌++◌, map, refl, ap, sym, ◌∙◌, subst, ⊎_elim, inl, inr}
+use Rattle.std.proofs.Common.{ℕ, ◌≡◌, ◌≢◌, ◌<◌, Bool, true, false, List, [], ◌∷◌, ◌++◌, map, refl, ap, sym, ◌∙◌, subst, ⊎_elim, inl, inr}
 use mathlib.Core.Path.{ap₂}
-use mathlib.Core.List.{append-nil, map-append}
+use mathlib.Core.List.{map-append}
 use Rattle.std.specs.Prelude.{not}
 use Rattle.std.specs.List.{flat_map}
 use Rattle.std.proofs.lemmas.List.Concat.{flat_map-append}
 use Rattle.std.proofs.lemmas.Bool.{cases_eq}
-use Rattle.mt_fault.specs.declared.fault.Spot.{Spot}
 use Rattle.mt_fault.specs.declared.fault.Fault.{Fault}
 use Rattle.mt_fault.specs.declared.fault.Fault.TheVariants.{StuckAt, CannotRise, CannotFall, Invert, Force, State, NoCell, Also, Instead}
 use Rattle.mt_fault.specs.Faulty.{asked}
@@ -17,15 +16,14 @@ use Rattle.mt_march.specs.Known.{march_c_minus}
 use Rattle.mt_march.specs.Accepted.{IsAcceptedMarch}
 use Rattle.mt_plan.specs.declared.algorithm.Act.{Act}
 use Rattle.mt_plan.specs.declared.algorithm.Step.{Step}
-use Rattle.mt_plan.specs.declared.algorithm.Algorithm.{Algorithm}
 use Rattle.mt_plan.specs.declared.algorithm.Algorithm.TheVariants.{Checkerboard, March as Marches, WalkPath, Galpat, TransparentGalpat}
 use Rattle.mt_plan.specs.Lists.{cells, step, is_odd, write_act, read_act, march_on, walk_on, galpat_on, checkerboard_on}
 use Rattle.mt_plan.specs.Plan.{steps_of}
 use Rattle.mt_cover.specs.declared.class.Class.TheVariants as classes
-use Rattle.mt_cover.specs.Coverage.{class_of, IsWalkTabled, IsTabled, Coverage}
-use Rattle.mt_cover.proofs.Model.{Rule, stuck, no_rise, no_fall, inverts, forces, holds, pick, project}
+use Rattle.mt_cover.specs.Coverage.{class_of, IsWalkTabled, Coverage}
+use Rattle.mt_cover.proofs.Model.{stuck, no_rise, no_fall, inverts, forces, holds, pick, project}
 use Rattle.mt_cover.proofs.Models.{none, stuck_model, rise_model, fall_model, invert_model, force_model, state_model}
-use Rattle.mt_cover.proofs.Cells.{pick_cases, one_cell, off, project-march}
+use Rattle.mt_cover.proofs.Cells.{one_cell, off, project-march}
 use Rattle.mt_cover.proofs.Finite.{Facts, always, always_at, march_c, march_c-facts, walk-facts, galpat-facts, march_c-forces, march_c-holds}
 use Rattle.mt_cover.proofs.Covered.{Projects, Slice, IsCaught, covered_alone, covered_one, covered_two}
 use Rattle.mt_cover.proofs.Stuck.{march_stuck}

@@ -1,7 +1,7 @@
 -- Walk path and Galpat on the cells of a fault.
 use Rattle.std.proofs.Common.{ℕ, ◌≡◌, Bool, true, false, List, [], ◌∷◌, ◌++◌, map, refl, ap, sym, ◌∙◌, ⊎_elim, subst}
 use mathlib.Core.List.{append-nil, map-append}
-use Rattle.std.specs.Prelude.{◌==◌, ◌||◌, not}
+use Rattle.std.specs.Prelude.{◌==◌, not}
 use Rattle.std.specs.List.{flat_map}
 use Rattle.std.proofs.lemmas.Bool.{or_cases, or_left, or_right, eq-eqb, ne_eqb, cases_eq}
 use Rattle.std.proofs.lemmas.List.Concat.{flat_map-append}

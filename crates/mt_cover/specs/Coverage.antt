@@ -1,5 +1,5 @@
 -- Which faults an algorithm catches. The table is this project's theorem.
-use Rattle.std.specs.Prelude.{◌≡◌, ◌≢◌, ◌⊎◌, ◌<◌, ◌+◌, ℕ, Bool, false, List, map, length, Some}
+use Rattle.std.specs.Prelude.{◌≡◌, ◌≢◌, ◌⊎◌, ◌<◌, ◌+◌, ℕ, false, List, map, Some}
 use Rattle.mt_word.specs.declared.Width.{Width}
 use Rattle.mt_word.specs.Word.{Fits, complement_of}
 use Rattle.mt_fault.specs.declared.fault.Fault.{Fault}

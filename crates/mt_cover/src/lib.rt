@@ -7,3 +7,5 @@ mod coverage;
 pub use class::{Class, class_of};
 pub use coverage::{covers, each_tabled_fault_is_caught};
 
+#[cfg(test)]
+mod tests;
