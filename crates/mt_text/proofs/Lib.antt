@@ -14,3 +14,4 @@ pub mod Leading
 pub mod Values
 pub mod Spellings
 pub mod RequestPaths
+pub mod RoundTrip

@@ -17,8 +17,8 @@ mod text;
 mod token;
 mod value;
 
-pub use laws::{one_line, spelled_lines_are_accepted};
 pub use entry::{entry_text, write_entry};
+pub use laws::{canonical_lines_spell_themselves, one_line, spelled_lines_are_accepted};
 pub use line::{Event, FlsCall, Line, LineKind, LineRefusal, RamCall};
 pub use line_text::write_line;
 pub use reading::read_line;
