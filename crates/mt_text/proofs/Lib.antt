@@ -15,3 +15,4 @@ pub mod Values
 pub mod Spellings
 pub mod RequestPaths
 pub mod RoundTrip
+pub mod RuleOne

@@ -79,7 +79,7 @@ is_op_word bytes = (((((bytes_eq bytes (codes "ram") || bytes_eq bytes (codes "f
 unfoldable pub op_form : Module → Bool → Form HandlerOp
 op_form m true = all_barred TooManyOps (row (codes "ram") (mapped Call ram_handler_call) (row (codes "fls") (mapped Call fls_handler_call) (mapped AppIn app_op)))
 op_form RamTst false = row (codes "ram") (mapped Call ram_handler_call) (barred (codes "fls") NotInHandler (mapped Call fls_handler_call) (mapped AppIn app_op))
-op_form FlsTst false = row (codes "fls") (mapped Call fls_handler_call) (barred (codes "ram") NotInHandler (mapped Call ram_handler_call) (mapped AppIn app_op))
+op_form FlsTst false = barred (codes "ram") NotInHandler (mapped Call ram_handler_call) (row (codes "fls") (mapped Call fls_handler_call) (mapped AppIn app_op))
 
 abbrev pub request : ℕ → List HandlerOp → Request
 request offset ops = record { offset = offset; ops = record { items = ops } }
