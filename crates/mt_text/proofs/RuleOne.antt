@@ -2,6 +2,7 @@
 use Rattle.std.proofs.Common.{◌≡◌, ◌≢◌, ℕ, Bool, true, false, cond, ◌&&◌, ◌||◌, List, [], ◌∷◌, ◌++◌, length, Option, Some, None, Result, Ok, Err, refl, sym, ap, subst, ◌∙◌, ◌⊎◌, inl, inr, not, nat_lt, nat_le, drop, codes}
 use Rattle.std.proofs.lemmas.Bool.{cases_Bool}
 use Rattle.std.specs.Str.{bytes_eq}
+use Rattle.std.proofs.lemmas.Slice.Eq.{bytes_eq-Decides}
 use Rattle.mt_fault.specs.declared.fault.Spot.{Spot}
 use Rattle.mt_port.specs.declared.board.Shape.{Shape}
 use Rattle.mt_port.specs.declared.request.Module.{Module}
@@ -9,6 +10,7 @@ use Rattle.mt_port.specs.declared.request.Module.TheVariants.{RamTst, FlsTst}
 use Rattle.mt_port.specs.declared.request.HandlerOp.{HandlerOp}
 use Rattle.mt_port.specs.declared.request.HandlerOp.TheVariants.{App as AppIn, Call}
 use Rattle.mt_port.specs.declared.request.Request.{Request}
+use Rattle.mt_port.specs.declared.request.AppOp.TheVariants.{Read}
 use Rattle.mt_text.specs.declared.line.Event.{Event}
 use Rattle.mt_text.specs.declared.line.Event.TheVariants.{Nothing, Ram, Fls, TickRam, TickFls, App, Inject, Heal, Burn, Flip}
 use Rattle.mt_text.specs.declared.line.Line.{Line}
@@ -349,3 +351,257 @@ op_uniform c FlsTst false = (
 )
 op_uniform c RamTst true = full_uniform c
 op_uniform c FlsTst true = full_uniform c
+
+-- ---- parts
+
+abbrev behind_op : Module → Event → List Request → ℕ → List HandlerOp → HandlerOp → Part
+behind_op m ev rs n ops op = Separator m ev rs n (ops ++ op ∷ [])
+
+operation_uniform : (m : Module) (ev : Event) (rs : List Request) (n : ℕ) (ops : List HandlerOp) → Uniform stage (part_form (Operation m ev rs n ops))
+operation_uniform m ev rs n ops = uniform_mapped stage (behind_op m ev rs n ops) (op_form m (nat_le 8 (length ops))) (op_uniform separator m (nat_le 8 (length ops)))
+
+part_uniform : (p : Part) → Uniform stage (part_form p)
+part_uniform Start = uniform_mapped stage follows event event_uniform
+part_uniform (Ended ev) = tt
+part_uniform (Requests m ev rs) = ((λ n. refl), (λ n. tt))
+part_uniform (Handler m ev rs n) = (tt, ((λ n. refl), (λ n. tt)))
+part_uniform (Open m ev rs n) = (tt, operation_uniform m ev rs n [])
+part_uniform (Operation m ev rs n ops) = operation_uniform m ev rs n ops
+part_uniform (Separator m ev rs n ops) = (tt, (tt, tt))
+
+settled_uniform : (f : Form Part) → Uniform stage f → Uniform stage (settled f)
+settled_uniform (done p) u = part_uniform p
+settled_uniform none u = u
+settled_uniform (row w g k) u = u
+settled_uniform (barred w b g k) u = u
+settled_uniform (value s g) u = u
+settled_uniform (spot s g) u = u
+settled_uniform (mark l c g) u = u
+
+op_tree : Tree
+op_tree = kinds (λ _. separator) (op_form RamTst false)
+
+start_tree : Tree
+start_tree = kinds (λ ev. stage (follows ev)) event
+
+stage_tree : Stage → Tree
+stage_tree starts = start_tree
+stage_tree ended = empty
+stage_tree requests = marked (leaf handler)
+stage_tree handler = branch (codes "[") (leaf opened) (marked (leaf handler))
+stage_tree opened = branch (codes "]") (leaf requests) op_tree
+stage_tree operation = op_tree
+stage_tree separator = branch (codes ";") (leaf operation) (branch (codes "]") (leaf requests) empty)
+
+settled_tree : Tree → Tree
+settled_tree (leaf s) = stage_tree s
+settled_tree empty = empty
+settled_tree (branch w f more) = branch w f more
+settled_tree (word f) = word f
+settled_tree (marked f) = marked f
+
+op_kinds : (m : Module) (full : Bool) → kinds (λ _. separator) (op_form m full) ≡ op_tree
+unfolding op_tree op_form app_op
+op_kinds RamTst false = refl
+op_kinds FlsTst false = refl
+op_kinds RamTst true = refl
+op_kinds FlsTst true = refl
+
+operation_kinds : (m : Module) (ev : Event) (rs : List Request) (n : ℕ) (ops : List HandlerOp) → kinds stage (part_form (Operation m ev rs n ops)) ≡ op_tree
+operation_kinds m ev rs n ops = kinds_mapped stage (behind_op m ev rs n ops) (op_form m (nat_le 8 (length ops))) ∙ op_kinds m (nat_le 8 (length ops))
+
+part_kinds : (p : Part) → kinds stage (part_form p) ≡ stage_tree (stage p)
+unfolding stage_tree start_tree
+part_kinds Start = kinds_mapped stage follows event
+part_kinds (Ended ev) = refl
+part_kinds (Requests m ev rs) = refl
+part_kinds (Handler m ev rs n) = refl
+part_kinds (Open m ev rs n) = ap (λ (x : Tree). branch (codes "]") (leaf requests) x) (operation_kinds m ev rs n [])
+part_kinds (Operation m ev rs n ops) = operation_kinds m ev rs n ops
+part_kinds (Separator m ev rs n ops) = refl
+
+settled_kinds : (f : Form Part) → kinds stage (settled f) ≡ settled_tree (kinds stage f)
+unfolding settled_tree
+settled_kinds (done p) = part_kinds p
+settled_kinds none = refl
+settled_kinds (row w g k) = refl
+settled_kinds (barred w b g k) = refl
+settled_kinds (value s g) = refl
+settled_kinds (spot s g) = refl
+settled_kinds (mark l c g) = refl
+
+-- ---- no line has the token
+
+some_is_not_none : (a b : Option Tree) (x : Tree) → a ≡ Some x → b ≡ None → a ≡ b → ⊥
+some_is_not_none a b x h k e = cc
+
+same_tree : (a b x y : Option Tree) (s t : Tree) → a ≡ Some s → b ≡ Some t → a ≡ b → s ≡ t
+same_tree a b x y s t h k e = cc
+
+no_line_from : (shape : Shape) (f g form : Form Part) (before : List Token) (bytes : List ℕ) (rest : List (List ℕ)) → kinds stage f ≡ kinds stage g → Uniform stage f → Uniform stage g
+    → Leads shape f before form → step shape (settled form) bytes ≡ Err Spelling → GoesOn g (bytes_of before ++ bytes ∷ rest) → ⊥
+unfolding Leads GoesOn
+no_line_from shape f g form [] bytes rest e u v l h k =
+    let s = subst (λ (x : Form Part). step shape (settled x) bytes ≡ Err Spelling) (sym l) h in
+    let a = no_kind stage shape (settled f) bytes (settled_uniform f u) s in
+    let b = allowed stage (settled g) bytes k.0 (settled_uniform g v) k.1 in
+    let trees : kinds stage (settled g) ≡ kinds stage (settled f) = settled_kinds g ∙ ap settled_tree (sym e) ∙ sym (settled_kinds f) in
+    some_is_not_none (tree_step (kinds stage (settled g)) bytes) (tree_step (kinds stage (settled f)) bytes) (kinds stage k.0) b.0 a (ap (λ (x : Tree). tree_step x bytes) trees)
+no_line_from shape f g form (t ∷ before) bytes rest e u v l h k =
+    let a = allowed stage (settled f) t.bytes l.0 (settled_uniform f u) (taken shape (settled f) t.bytes l.0 l.1) in
+    let b = allowed stage (settled g) t.bytes k.0 (settled_uniform g v) k.1 in
+    let trees : kinds stage (settled f) ≡ kinds stage (settled g) = settled_kinds f ∙ ap settled_tree e ∙ sym (settled_kinds g) in
+    let same : kinds stage l.0 ≡ kinds stage k.0 = same_tree (tree_step (kinds stage (settled f)) t.bytes) (tree_step (kinds stage (settled g)) t.bytes) None None (kinds stage l.0) (kinds stage k.0) a.0 b.0 (ap (λ (x : Tree). tree_step x t.bytes) trees) in
+    no_line_from shape l.0 k.0 form before bytes rest same a.1 b.1 l.2 h k.2
+
+pub no_line : (shape : Shape) (form : Form Part) (before : List Token) (bytes : List ℕ) (rest : List (List ℕ)) → Leads shape (done Start) before form → step shape (settled form) bytes ≡ Err Spelling → IsOfKinds (bytes_of before ++ bytes ∷ rest) → ⊥
+no_line shape form before bytes rest l h k = no_line_from shape (done Start) (done Start) form before bytes rest refl tt tt l h k
+
+-- ---- some line has it
+
+pub leads_goes : (shape : Shape) (f g : Form Part) (before : List Token) (rest : List (List ℕ)) → Leads shape f before g → GoesOn g rest → GoesOn f (bytes_of before ++ rest)
+unfolding Leads GoesOn
+leads_goes shape f g [] rest l k = subst (λ (x : Form Part). GoesOn x rest) (sym l) k
+leads_goes shape f g (t ∷ before) rest l k = (l.0, taken shape (settled f) t.bytes l.0 l.1, leads_goes shape l.0 g before rest l.2 k)
+
+lives : Tree → Bool
+lives (leaf s) = true
+lives empty = false
+lives (branch w f more) = lives f
+lives (word f) = lives f
+lives (marked f) = lives f
+
+-- each form behind a token lives
+all_live : Tree → Bool
+all_live (leaf s) = true
+all_live empty = true
+all_live (branch w f more) = lives f && (all_live f && all_live more)
+all_live (word f) = lives f && all_live f
+all_live (marked f) = lives f && all_live f
+
+both : (a b : Bool) → (a && b) ≡ true → (a ≡ true) × (b ≡ true)
+both true b h = (refl, h)
+both false b h = absurd cc
+
+live_step : (T : Tree) (bytes : List ℕ) (U : Tree) → all_live T ≡ true → tree_step T bytes ≡ Some U → (lives U ≡ true) × (all_live U ≡ true)
+unfolding all_live
+live_step (leaf s) bytes U h k = absurd cc
+live_step empty bytes U h k = absurd cc
+live_step (branch w f more) bytes U h k =
+    let m = both (lives f) (all_live f && all_live more) h in
+    let n = both (all_live f) (all_live more) m.1 in
+    (elim (bytes_eq bytes w) as (λ b. cond b (Some f) (tree_step more bytes) ≡ Some U → (lives U ≡ true) × (all_live U ≡ true)) [
+      | true ↦ λ e. let same : f ≡ U = cc in subst (λ (x : Tree). (lives x ≡ true) × (all_live x ≡ true)) same (m.0, n.0)
+      | false ↦ λ e. live_step more bytes U n.1 e
+    ]) k
+live_step (word f) bytes U h k =
+    let m = both (lives f) (all_live f) h in
+    (elim (begins_word bytes) as (λ b. cond b (Some f) None ≡ Some U → (lives U ≡ true) × (all_live U ≡ true)) [
+      | true ↦ λ e. let same : f ≡ U = cc in subst (λ (x : Tree). (lives x ≡ true) × (all_live x ≡ true)) same (m.0, m.1)
+      | false ↦ λ e. absurd cc
+    ]) k
+live_step (marked f) bytes U h k =
+    let m = both (lives f) (all_live f) h in
+    (elim (begins_mark bytes) as (λ b. cond b (Some f) None ≡ Some U → (lives U ≡ true) × (all_live U ≡ true)) [
+      | true ↦ λ e. let same : f ≡ U = cc in subst (λ (x : Tree). (lives x ≡ true) × (all_live x ≡ true)) same (m.0, m.1)
+      | false ↦ λ e. absurd cc
+    ]) k
+
+stage_lives : (s : Stage) → all_live (stage_tree s) ≡ true
+unfolding all_live lives stage_tree start_tree op_tree event app_op fault ram_call fls_call op_form ram_handler_call fls_handler_call
+stage_lives starts = refl
+stage_lives ended = refl
+stage_lives requests = refl
+stage_lives handler = refl
+stage_lives opened = refl
+stage_lives operation = refl
+stage_lives separator = refl
+
+settled_lives : (T : Tree) → all_live T ≡ true → all_live (settled_tree T) ≡ true
+unfolding settled_tree
+settled_lives (leaf s) h = stage_lives s
+settled_lives empty h = h
+settled_lives (branch w f more) h = h
+settled_lives (word f) h = h
+settled_lives (marked f) h = h
+
+-- the forms to which tokens lead live
+led_lives : (shape : Shape) (f g : Form Part) (before : List Token) → Uniform stage f → all_live (kinds stage f) ≡ true → Leads shape f before g → Uniform stage g × (all_live (kinds stage g) ≡ true)
+unfolding Leads
+led_lives shape f g [] u h l = (subst (λ (x : Form Part). Uniform stage x) l u, subst (λ (x : Form Part). all_live (kinds stage x) ≡ true) l h)
+led_lives shape f g (t ∷ before) u h l =
+    let a = allowed stage (settled f) t.bytes l.0 (settled_uniform f u) (taken shape (settled f) t.bytes l.0 l.1) in
+    let s : all_live (kinds stage (settled f)) ≡ true = ap all_live (settled_kinds f) ∙ settled_lives (kinds stage f) h in
+    led_lives shape l.0 g before a.1 (live_step (kinds stage (settled f)) t.bytes (kinds stage l.0) s a.0).1 l.2
+
+bytes_same : (w : List ℕ) → bytes_eq w w ≡ true
+bytes_same w = (bytes_eq-Decides w w).1 refl
+
+-- how a line may end behind a form
+Completion : Form Part → Type 0
+Completion f = (rest : List (List ℕ)) × GoesOn f rest
+
+first_chosen : {X : Type 0} (w : List ℕ) (form more : Form X) → Either (bytes_eq w w) (form ≡ form) (Allows more w form)
+first_chosen {X} w form more = subst (λ (b : Bool). Either b (form ≡ form) (Allows more w form)) (sym (bytes_same w)) refl
+
+line_ends : (p : Part) (l : Line) → whole_at (done p) ≡ Some l → Completion (done p)
+unfolding Completion GoesOn
+line_ends p l h = ([], (l, h))
+
+behind_separator : (m : Module) (ev : Event) (rs : List Request) (n : ℕ) (ops : List HandlerOp) → Completion (done (Separator m ev rs n ops))
+unfolding Completion GoesOn
+behind_separator m ev rs n ops = (codes "]" ∷ [], (done (Requests m ev (rs ++ request n ops ∷ [])), refl, (_, refl)))
+
+-- a read of word 0, and the bracket
+read_of : {X : Type 0} (f : HandlerOp → X) (m : Module) (full : Bool) → Allows (mapped f (op_form m full)) (codes "r") (value Addr (λ a. done (f (AppIn (Read a)))))
+unfolding op_form app_op
+read_of f RamTst false = refl
+read_of f FlsTst false = refl
+read_of f RamTst true = refl
+read_of f FlsTst true = refl
+
+behind_operation : (m : Module) (ev : Event) (rs : List Request) (n : ℕ) (ops : List HandlerOp) → Completion (done (Operation m ev rs n ops))
+unfolding Completion GoesOn
+behind_operation m ev rs n ops =
+    let c = behind_separator m ev rs n (ops ++ AppIn (Read 0) ∷ []) in
+    (
+      codes "r" ∷ codes "0" ∷ c.0,
+      (
+        value Addr (λ a. done (behind_op m ev rs n ops (AppIn (Read a)))),
+        read_of (behind_op m ev rs n ops) m (nat_le 8 (length ops)),
+        (done (Separator m ev rs n (ops ++ AppIn (Read 0) ∷ [])), (refl, (0, refl)), c.1),
+      ),
+    )
+
+behind_part : (p : Part) → Completion (done p)
+unfolding Completion GoesOn
+behind_part Start = line_ends Start _ refl
+behind_part (Ended ev) = line_ends (Ended ev) _ refl
+behind_part (Requests m ev rs) = line_ends (Requests m ev rs) _ refl
+behind_part (Handler m ev rs n) = line_ends (Handler m ev rs n) _ refl
+behind_part (Open m ev rs n) = (codes "]" ∷ [], (done (Requests m ev (rs ++ request n [] ∷ [])), refl, (_, refl)))
+behind_part (Operation m ev rs n ops) = behind_operation m ev rs n ops
+behind_part (Separator m ev rs n ops) = behind_separator m ev rs n ops
+
+complete : (f : Form Part) → lives (kinds stage f) ≡ true → Completion f
+unfolding Completion GoesOn lives
+complete (done p) h = behind_part p
+complete none h = absurd (let q : false ≡ true = h in cc)
+complete (row w form more) h = let c = complete form h in (w ∷ c.0, (form, first_chosen w form more, c.1))
+complete (barred w k form more) h = let c = complete form h in (w ∷ c.0, (form, first_chosen w form more, c.1))
+complete (value slot form) h = let c = complete (form 0) h in (codes "0" ∷ c.0, (form 0, (refl, (0, refl)), c.1))
+complete (spot slot form) h = let o : Spot = record { word = 0; bit = 0 } in let c = complete (form o) h in (codes "0" ∷ c.0, (form o, (refl, (o, refl)), c.1))
+complete (mark l c form) h = let k = complete (form 0) h in (codes "@" ∷ k.0, (form 0, (refl, (0, refl)), k.1))
+
+pub some_line : (shape : Shape) (form : Form Part) (before : List Token) (bytes : List ℕ) → Leads shape (done Start) before form → ((rest : List (List ℕ)) → ¬ IsOfKinds (bytes_of before ++ bytes ∷ rest)) → step shape (settled form) bytes ≡ Err Spelling
+unfolding Completion GoesOn all_live
+some_line shape form before bytes l none_ =
+    let u = led_lives shape (done Start) form before tt refl l in
+    let s : all_live (kinds stage (settled form)) ≡ true = ap all_live (settled_kinds form) ∙ settled_lives (kinds stage form) u.1 in
+    elim (kind_or_rule shape (settled form) bytes) [
+      | inl g ↦
+        let a = allowed stage (settled form) bytes g.0 (settled_uniform form u.0) g.1 in
+        let c = complete g.0 (live_step (kinds stage (settled form)) bytes (kinds stage g.0) s a.0).0 in
+        absurd (none_ c.0 (leads_goes shape (done Start) form before (bytes ∷ c.0) l (g.0, g.1, c.1)))
+      | inr e ↦ e
+    ]
