@@ -16,3 +16,5 @@ pub mod Spellings
 pub mod RequestPaths
 pub mod RoundTrip
 pub mod RuleOne
+pub mod SpellingLaws
+pub mod TraceLemmas

@@ -15,12 +15,14 @@ use Rattle.mt_text.specs.declared.line.Event.{Event}
 use Rattle.mt_text.specs.declared.line.Event.TheVariants.{Nothing, Ram, Fls, TickRam, TickFls, App, Inject, Heal, Burn, Flip}
 use Rattle.mt_text.specs.declared.line.Line.{Line}
 use Rattle.mt_text.specs.declared.line.LineKind.{LineKind}
+use Rattle.mt_text.specs.declared.line.LineRefusal.{LineRefusal}
+use Rattle.std.proofs.lemmas.List.{append-nil}
 use Rattle.mt_text.specs.declared.line.LineKind.TheVariants.{Spelling, Number, Address, FaultRefused, WordTooWide, OffsetsFall, TooManyRequests, TooManyOps, NotInHandler}
 use Rattle.mt_text.specs.Tokens.{Token, begins_word, number_of, hex_of, spot_of}
 use Rattle.mt_text.specs.Forms.{Form, done, none, row, barred, value, spot, mark, Slot, Num, Addr, FlashAddr, OtherAddr, Data, Bit, SpotSlot, RamSpot, OtherSpot, FlashSpot, step, mapped, mapped_ok, value_at, word_at, spot_at, spot_word_at, mark_at, begins_mark, broken_if, spelled, bit_of}
 use Rattle.mt_text.specs.RamServices.{ram_call, ram_handler_call}
 use Rattle.mt_text.specs.FlsServices.{fls_call, fls_handler_call}
-use Rattle.mt_text.specs.Lines.{app_op, fault, event, op_form, Part, Start, Ended, Requests, Handler, Open, Operation, Separator, part_form, follows, request, settled, whole_at, Leads}
+use Rattle.mt_text.specs.Lines.{app_op, fault, event, op_form, Part, Start, Ended, Requests, Handler, Open, Operation, Separator, part_form, follows, request, settled, whole_at, Leads, FirstBroken, SpellsTokens}
 use Rattle.mt_text.specs.Kinds.{Either, Allows, GoesOn, IsOfKinds, bytes_of}
 
 -- ---- the kinds of a form as a tree
@@ -605,3 +607,21 @@ some_line shape form before bytes l none_ =
         absurd (none_ c.0 (leads_goes shape (done Start) form before (bytes ∷ c.0) l (g.0, g.1, c.1)))
       | inr e ↦ e
     ]
+
+-- ---- as laws
+
+pub refused_is_no_line : (shape : Shape) (ts : List Token) (e : LineRefusal) (b : FirstBroken shape ts e)
+    → ((e.kind ≡ Spelling) → (rest : List (List ℕ)) → ¬ IsOfKinds (bytes_of b.before ++ b.token.bytes ∷ rest)) × (((rest : List (List ℕ)) → ¬ IsOfKinds (bytes_of b.before ++ b.token.bytes ∷ rest)) → e.kind ≡ Spelling)
+refused_is_no_line shape ts e b =
+    ((λ k rest. no_line shape b.form b.before b.token.bytes rest b.leads (b.broken ∙ ap (λ (x : LineKind). Err x) k)),
+    (λ h. let s = some_line shape b.form b.before b.token.bytes b.leads h in let same : Err e.kind ≡ Err Spelling = sym b.broken ∙ s in cc (same)))
+
+ends_there : (g : Form Part) (l : Line) → whole_at g ≡ Some l → GoesOn g []
+unfolding GoesOn
+ends_there g l h = (l, h)
+
+bytes_nil : (xs : List (List ℕ)) → xs ++ [] ≡ xs
+bytes_nil xs = append-nil xs
+
+pub spelled_is_of_kinds : (shape : Shape) (ts : List Token) (l : Line) → SpellsTokens shape ts l → IsOfKinds (bytes_of ts)
+spelled_is_of_kinds shape ts l h = subst IsOfKinds (bytes_nil (bytes_of ts)) (leads_goes shape (done Start) h.last ts [] h.leads (ends_there h.last l h.ends))

@@ -62,11 +62,11 @@ mark_is_text n lt = decimal_words n lt
 -- ---- hexadecimal digits
 
 -- a test that every number below n passes
-check : (ℕ → Bool) → ℕ → Bool
+unfoldable pub check : (ℕ → Bool) → ℕ → Bool
 check t zero = true
 check t (suc n) = t n && check t n
 
-checked : (t : ℕ → Bool) (n d : ℕ) → check t n ≡ true → d < n → t d ≡ true
+pub checked : (t : ℕ → Bool) (n d : ℕ) → check t n ≡ true → d < n → t d ≡ true
 unfolding check
 checked t zero d h lt = absurd (omega arith)
 checked t (suc n) d h lt =
@@ -134,7 +134,7 @@ word_is_text W8 w = text_of_words (hex_text 2 w) (let l = hex_text_length 2 w in
 word_is_text W16 w = text_of_words (hex_text 4 w) (let l = hex_text_length 4 w in omega arith) (hex_text_all is_word 4 w glyph_is_word)
 word_is_text W32 w = text_of_words (hex_text 8 w) (let l = hex_text_length 8 w in omega arith) (hex_text_all is_word 8 w glyph_is_word)
 
-word_of_text : (width : Width) (w : ℕ) → Fits width w → hex_of (word_text width w) ≡ Some w
+pub word_of_text : (width : Width) (w : ℕ) → Fits width w → hex_of (word_text width w) ≡ Some w
 word_of_text W8 w h = hex_of_text 2 w (lit< tt) (omega arith) h
 word_of_text W16 w h = hex_of_text 4 w (lit< tt) (omega arith) h
 word_of_text W32 w h = hex_of_text 8 w (lit< tt) (omega arith) h
