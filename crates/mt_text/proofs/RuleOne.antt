@@ -281,9 +281,11 @@ event_uniform = (
 ram_handler_uniform : (c : Stage) → Uniform (λ _. c) ram_handler_call
 unfolding ram_handler_call
 ram_handler_uniform c = (
-  handler_later, tt,
+  handler_later,
+  tt,
   (
-    handler_later, tt,
+    handler_later,
+    tt,
     (
       tt,
       (
@@ -299,13 +301,17 @@ ram_handler_uniform c = (
                 (
                   ((λ n. refl), (λ n. tt)),
                   (
-                    handler_later, tt,
+                    handler_later,
+                    tt,
                     (
-                      handler_later, tt,
+                      handler_later,
+                      tt,
                       (
-                        handler_later, tt,
+                        handler_later,
+                        tt,
                         (
-                          handler_later, ((λ n. refl), (λ n. tt)),
+                          handler_later,
+                          ((λ n. refl), (λ n. tt)),
                           (handler_later, ((λ n. refl), (λ n. tt)), (handler_later, tt, (handler_later, ((λ n. refl), (λ n. tt)), (handler_later, tt, tt)))),
                         ),
                       ),
@@ -328,13 +334,17 @@ fls_handler_uniform c = (handler_later, tt, (handler_later, tt, (handler_later, 
 full_uniform : (c : Stage) → Uniform (λ _. c) (op_form RamTst true)
 unfolding op_form app_op
 full_uniform c = (
-  ops_later, uniform_mapped (λ _. c) (λ x. Call x) ram_handler_call (ram_handler_uniform c),
+  ops_later,
+  uniform_mapped (λ _. c) (λ x. Call x) ram_handler_call (ram_handler_uniform c),
   (
-    ops_later, uniform_mapped (λ _. c) (λ x. Call x) fls_handler_call (fls_handler_uniform c),
+    ops_later,
+    uniform_mapped (λ _. c) (λ x. Call x) fls_handler_call (fls_handler_uniform c),
     (
-      ops_later, ((λ n. refl), (λ n. tt)),
+      ops_later,
+      ((λ n. refl), (λ n. tt)),
       (
-        ops_later, ((λ n. refl), (λ n. ((λ k. refl), (λ k. tt)))),
+        ops_later,
+        ((λ n. refl), (λ n. ((λ k. refl), (λ k. tt)))),
         (ops_later, ((λ n. refl), (λ n. ((λ k. refl), (λ k. tt)))), (ops_later, ((λ n. refl), (λ n. ((λ k. refl), (λ k. tt)))), (ops_later, ((λ n. refl), (λ n. tt)), tt))),
       ),
     ),
@@ -348,7 +358,8 @@ op_uniform c RamTst false = (
   (handler_later, uniform_mapped (λ _. c) (λ x. Call x) fls_handler_call (fls_handler_uniform c), uniform_mapped (λ _. c) (λ x. AppIn x) app_op (app_uniform c)),
 )
 op_uniform c FlsTst false = (
-  handler_later, uniform_mapped (λ _. c) (λ x. Call x) ram_handler_call (ram_handler_uniform c),
+  handler_later,
+  uniform_mapped (λ _. c) (λ x. Call x) ram_handler_call (ram_handler_uniform c),
   (uniform_mapped (λ _. c) (λ x. Call x) fls_handler_call (fls_handler_uniform c), uniform_mapped (λ _. c) (λ x. AppIn x) app_op (app_uniform c)),
 )
 op_uniform c RamTst true = full_uniform c
@@ -565,8 +576,7 @@ read_of f FlsTst true = refl
 behind_operation : (m : Module) (ev : Event) (rs : List Request) (n : ℕ) (ops : List HandlerOp) → Completion (done (Operation m ev rs n ops))
 unfolding Completion GoesOn
 behind_operation m ev rs n ops =
-    let c = behind_separator m ev rs n (ops ++ AppIn (Read 0) ∷ []) in
-    (
+    let c = behind_separator m ev rs n (ops ++ AppIn (Read 0) ∷ []) in (
       codes "r" ∷ codes "0" ∷ c.0,
       (
         value Addr (λ a. done (behind_op m ev rs n ops (AppIn (Read a)))),
@@ -602,9 +612,9 @@ some_line shape form before bytes l none_ =
     let s : all_live (kinds stage (settled form)) ≡ true = ap all_live (settled_kinds form) ∙ settled_lives (kinds stage form) u.1 in
     elim (kind_or_rule shape (settled form) bytes) [
       | inl g ↦
-        let a = allowed stage (settled form) bytes g.0 (settled_uniform form u.0) g.1 in
-        let c = complete g.0 (live_step (kinds stage (settled form)) bytes (kinds stage g.0) s a.0).0 in
-        absurd (none_ c.0 (leads_goes shape (done Start) form before (bytes ∷ c.0) l (g.0, g.1, c.1)))
+          let a = allowed stage (settled form) bytes g.0 (settled_uniform form u.0) g.1 in
+          let c = complete g.0 (live_step (kinds stage (settled form)) bytes (kinds stage g.0) s a.0).0 in
+          absurd (none_ c.0 (leads_goes shape (done Start) form before (bytes ∷ c.0) l (g.0, g.1, c.1)))
       | inr e ↦ e
     ]
 
@@ -612,9 +622,10 @@ some_line shape form before bytes l none_ =
 
 pub refused_is_no_line : (shape : Shape) (ts : List Token) (e : LineRefusal) (b : FirstBroken shape ts e)
     → ((e.kind ≡ Spelling) → (rest : List (List ℕ)) → ¬ IsOfKinds (bytes_of b.before ++ b.token.bytes ∷ rest)) × (((rest : List (List ℕ)) → ¬ IsOfKinds (bytes_of b.before ++ b.token.bytes ∷ rest)) → e.kind ≡ Spelling)
-refused_is_no_line shape ts e b =
-    ((λ k rest. no_line shape b.form b.before b.token.bytes rest b.leads (b.broken ∙ ap (λ (x : LineKind). Err x) k)),
-    (λ h. let s = some_line shape b.form b.before b.token.bytes b.leads h in let same : Err e.kind ≡ Err Spelling = sym b.broken ∙ s in cc (same)))
+refused_is_no_line shape ts e b = (
+  (λ k rest. no_line shape b.form b.before b.token.bytes rest b.leads (b.broken ∙ ap (λ (x : LineKind). Err x) k)),
+  (λ h. let s = some_line shape b.form b.before b.token.bytes b.leads h in let same : Err e.kind ≡ Err Spelling = sym b.broken ∙ s in cc (same)),
+)
 
 ends_there : (g : Form Part) (l : Line) → whole_at g ≡ Some l → GoesOn g []
 unfolding GoesOn
