@@ -39,7 +39,8 @@ impl Cells {
         requires some { 1 ≤ size }
         requires limit { size ≤ 65536 }
         requires initial { Fits width initial }
-        ensures { IfOk result (λ m. m ≡ record { width = width; fault = None; words = replicate size initial }) }
+        ensures words { IfOk result (λ m. m ≡ record { width = width; fault = None; words = replicate size initial }) }
+        ensures sound { IfOk result IsSound }
     {
         let Ok(words) = vec![in alloc; initial; size as usize] else {
             return Err(NoMemory);
@@ -66,32 +67,35 @@ impl Cells {
         ensures after { self.new ≡ after_access self.old (Read addr) }
         ensures unchanged { self.new ≡ self.old }
         ensures fits { Fits self.old.width result }
+        ensures sound { IsSound self.new }
     {
         read_word(&self.words, self.width, self.fault, addr)
     }
 
-    #[tactic(auto, using(crate::proofs::Steps::size_after))]
     /// Writes a word, under the fault that is there.
+    #[tactic(auto, using(crate::proofs::Steps::size_after))]
     pub fn write(&mut self, addr: u32, word: u64)
         requires addr { addr < length self.old.words }
         requires word { Fits self.old.width word }
         ensures after { self.new ≡ after_access self.old (Write addr word) }
         ensures size { length self.new.words ≡ length self.old.words }
+        ensures sound { IsSound self.new }
     {
         write_word(&mut self.words, self.width, self.fault, addr, word);
     }
 
-    #[tactic(auto, using(crate::proofs::Steps::size_first))]
     /// Puts a fault there, where it is in range, its two addresses differ and none is there; the first of these that
     /// fails is the refusal, and then nothing has changed.
     ///
     /// A stuck-at fault sets its victim at once, and a state coupling fault where its aggressor holds; such a bit
     /// stays when the fault is healed.
+    #[tactic(auto, using(crate::proofs::Steps::size_first))]
     pub fn inject(&mut self, fault: Fault) -> Result<(), FaultRefusal>
         ensures answer { result ≡ injection self.old fault }
         ensures ok { OnOk result (self.new ≡ record self.old { fault = Some fault; words = first_words fault self.old.words }) }
         ensures err { OnErr result (self.new ≡ self.old) }
         ensures size { length self.new.words ≡ length self.old.words }
+        ensures sound { IsSound self.new }
     {
         if !is_in_range(self.width, self.words.len(), fault) {
             return Err(FaultRefusal::OutOfRange);
@@ -109,33 +113,9 @@ impl Cells {
 
     /// Takes the fault away, if one is there. Stored words stay, also the bits that the fault has forced.
     pub fn heal(&mut self)
-        ensures { self.new ≡ record self.old { fault = None } }
+        ensures healed { self.new ≡ record self.old { fault = None } }
+        ensures sound { IsSound self.new }
     {
         self.fault = None;
-    }
-}
-
-#[cfg(test)]
-mod tests {
-    use super::*;
-    use crate::fault::Spot;
-    use std::test::Fail;
-
-    #[test]
-    fn a_rise_inverts_the_victim(rt: HostRuntime) -> Result<(), Fail> {
-        let mut cells = Cells::new(rt.alloc(), Width::W8, 4, 0)?;
-        let agg = Spot { word: 1, bit: 0 };
-        let vic = Spot { word: 2, bit: 7 };
-        cells.inject(Fault::Invert {
-            agg,
-            rise: true,
-            vic,
-        })?;
-        cells.write(1, 1);
-        assert_eq!(rt; cells.read(2), 128);
-        cells.write(1, 0);
-        cells.write(1, 255);
-        assert_eq!(rt; cells.read(2), 0);
-        Ok(())
     }
 }

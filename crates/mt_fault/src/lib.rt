@@ -9,6 +9,8 @@ mod cells;
 mod fault;
 mod laws;
 mod placement;
+#[cfg(test)]
+mod tests;
 
 pub use cells::Cells;
 pub use fault::{Fault, FaultRefusal, Spot};

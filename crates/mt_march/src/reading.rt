@@ -8,6 +8,7 @@ ghost use Rattle.mt_march.specs.Building.{element_count, finished};
 ghost use Rattle.mt_march.specs.declared.march.Element.{Element};
 ghost use Rattle.mt_march.specs.declared.march.Op.{Op};
 ghost use Rattle.mt_march.specs.Reading.{rule_broken, Refuses};
+ghost use Rattle.mt_march.specs.Accepted.{IsAcceptedMarch};
 
 use crate::limits::{close_place, first, has_read, read_before_write, too_long, wrong_expectation};
 use crate::march::{Element, March, MarchKind, MarchRefusal, Op, Order};
@@ -147,6 +148,8 @@ pub fn read_march(text: &[u8]) -> Result<March, MarchRefusal>
     requires { length text.now < 65537 }
     // What is read is spelled so, and breaks no rule.
     ensures ok { IfOk result (λ march. SpellsMarch text.now march.elements.items × (rule_broken text.now ≡ None)) }
+    // So it is an accepted march.
+    ensures accepted { IfOk result (λ march. IsAcceptedMarch march.elements.items) }
     // A refusal is that of the least broken rule, at its place.
     ensures err { IfErr result (λ refusal. Refuses text.now refusal) }
 {

@@ -1,7 +1,7 @@
 //! The canonical text.
 
-ghost use Rattle.std.specs.Prelude.{◌≡◌, ◌<◌, ◌≤◌, ◌+◌, ◌*◌, ℕ, List, [], ◌∷◌, ◌++◌, length};
-ghost use Rattle.mt_march.specs.Grammar.{Token, op_token, order_token, all_ops, element_tokens, more_elements, IsSome, IsMarch, SpellsMarch};
+ghost use Rattle.std.specs.Prelude.{◌≡◌, ◌<◌, ◌≤◌, ◌+◌, ◌*◌, List, [], ◌∷◌, ◌++◌, length};
+ghost use Rattle.mt_march.specs.Grammar.{Token, op_token, order_token, all_ops, element_tokens, more_elements, IsSome, IsMarch};
 ghost use Rattle.mt_march.specs.declared.march.Element.{Element};
 ghost use Rattle.mt_march.specs.Canonical.{text_of, canonical};
 
@@ -73,10 +73,11 @@ fn push_element(out: &mut Text, element: &Element)
     push_ops(out, element.ops.as_slice());
 }
 
-/// The canonical text of a march.
+/// The canonical text of a march: a space after each semicolon, and no other.
 pub fn march_text(march: &March) -> ArrayVec<u8, 448>
     requires { IsMarch march.now.elements.items }
-    ensures { result.items ≡ canonical march.now.elements.items }
+    ensures text { result.items ≡ canonical march.now.elements.items }
+    ensures few { length result.items ≤ 448 }
 {
     let mut out = ArrayVec::new();
     if let [first, rest @ ..] = march.elements.as_slice() {
@@ -90,9 +91,3 @@ pub fn march_text(march: &March) -> ArrayVec<u8, 448>
     }
     out
 }
-
-/// The canonical text spells its march, and no text spells two.
-pub fn canonical_law()
-    ensures spells { (es : List Element) → IsMarch es → SpellsMarch (canonical es) es }
-    ensures one { (text : List ℕ) (a b : List Element) → SpellsMarch text a → SpellsMarch text b → a ≡ b }
-{}

@@ -26,6 +26,7 @@ pub use laws::{
 pub use line::{Event, FlsCall, Line, LineKind, LineRefusal, RamCall};
 pub use line_text::write_line;
 pub use reading::read_line;
+pub use text::{push_bytes, push_number};
 
 #[cfg(test)]
 mod tests;

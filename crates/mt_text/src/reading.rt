@@ -120,6 +120,8 @@ pub fn read_line(text: &[u8], shape: Shape) -> Result<Line, LineRefusal>
     ensures ok { IfOk result (λ line. Spells shape text.now line) }
     ensures err { IfErr result (λ refusal. Refuses shape text.now refusal) }
     ensures accepted { IfOk result (λ line. IsAccepted shape line) }
+    // The reading as a function of the text.
+    ensures value { line_of shape text.now ≡ result }
 {
     line_of(text, shape)
 }

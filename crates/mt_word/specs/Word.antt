@@ -13,6 +13,7 @@ width_bits W32 = 32
 abbrev pub Fits : Width → ℕ → Type 0
 Fits width word = word < 2 ^ width_bits width
 
+-- the word with every bit of the width flipped
 abbrev pub complement_of : Width → ℕ → ℕ
 complement_of width word = 2 ^ width_bits width - 1 - word
 

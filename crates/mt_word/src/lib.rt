@@ -1,14 +1,18 @@
-//! Words of a width, and their bits.
+//! Words of 8, 16 or 32 bits, and their bits.
+//!
+//! A word has the type `u64` at every width. Bit 0 is the least one.
 #![tactic(auto)]
 
 ghost use Rattle.std.specs.Prelude.{◌≡◌, ◌≢◌, ◌<◌, ◌^◌, ◌-◌, ◌↔◌, ℕ, IsTrue};
 ghost use Rattle.mt_word.specs.Word.{width_bits, Fits, complement_of, has_bit, put_bit};
 
+mod laws;
 mod sum;
 
+pub use laws::bits_are_put;
 pub use sum::wrapping_sum;
 
-/// How many bits a word has.
+/// How many bits a word has: 8, 16 or 32.
 #[derive(Clone, Copy, Debug, PartialEq, Eq)]
 pub enum Width {
     W8,
@@ -16,7 +20,7 @@ pub enum Width {
     W32,
 }
 
-/// A call found no memory.
+/// The answer of a call that found no memory.
 #[derive(Clone, Copy, Debug, PartialEq, Eq)]
 pub struct NoMemory;
 
@@ -38,14 +42,14 @@ fn mask(width: Width) -> u64
     u64::MAX >> (64 - bits(width))
 }
 
-/// Whether the word is one of the width.
+/// Whether the word is below 2 to the power of the width.
 pub fn fits(width: Width, word: u64) -> bool
     ensures { IsTrue result ↔ Fits width word }
 {
     word <= mask(width)
 }
 
-/// The complement of a word.
+/// The complement of a word: each of its bits is flipped.
 pub fn flip(width: Width, word: u64) -> u64
     requires { Fits width word }
     ensures word { result ≡ complement_of width word }
@@ -54,7 +58,7 @@ pub fn flip(width: Width, word: u64) -> u64
     word ^ mask(width)
 }
 
-/// One bit of a word.
+/// One bit of a word, where `at` is below 64.
 pub fn bit(word: u64, at: u8) -> bool
     requires { at < 64 }
     ensures { result ≡ has_bit word at }
@@ -62,7 +66,7 @@ pub fn bit(word: u64, at: u8) -> bool
     (word >> at) & 1 == 1
 }
 
-/// The word with that bit set so.
+/// The word with bit `at` set to `value`; every other bit stays.
 pub fn with_bit(width: Width, word: u64, at: u8, value: bool) -> u64
     requires word { Fits width word }
     requires at { at < width_bits width }

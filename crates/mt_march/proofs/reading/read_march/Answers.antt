@@ -3,7 +3,9 @@ use Rattle.mt_march.specs.Grammar.{SpellsMarch}
 use Rattle.mt_march.specs.Reading.{rule_broken}
 use Rattle.mt_march.specs.Value.{march_of}
 use Rattle.mt_march.proofs.Places.{place_from_fault, march_from_none}
+use Rattle.mt_march.specs.Accepted.{IsAcceptedMarch}
 use Rattle.mt_march.proofs.Room.{or_else_none}
+use Rattle.mt_march.proofs.Agreement.{accepted_breaks_no_rule}
 use Rattle.mt_march.proofs.reading.read_march.Goals as goal
 
 pub returns-in-Some-clause-err : goal.returns-in-Some-clause-err
@@ -20,3 +22,8 @@ build-requires c = or_else_none _ _ _ (sym c.rule_broken.ensures ∙ c.in_defaul
 pub returns-clause-ok : goal.returns-clause-ok
 returns-clause-ok c =
     (subst (SpellsMarch c.args.text.now) (sym c.build.ensures) (march_from_none c.args.text.now (sym c.spelling_fault.ensures ∙ c.in_default.is)), sym c.rule_broken.ensures ∙ c.in_default-rule_broken.is)
+
+pub returns-clause-accepted : goal.returns-clause-accepted
+returns-clause-accepted c =
+    let spelled = march_from_none c.args.text.now (sym c.spelling_fault.ensures ∙ c.in_default.is) in
+    subst IsAcceptedMarch (sym c.build.ensures) ((accepted_breaks_no_rule c.args.text.now (march_of c.args.text.now) spelled).0 (sym c.rule_broken.ensures ∙ c.in_default-rule_broken.is))

@@ -1,5 +1,5 @@
 use Rattle.mt_march.proofs.Canonicals.{canonical_spells, spells_one}
-use Rattle.mt_march.proofs.writing.canonical_law.Goals as goal
+use Rattle.mt_march.proofs.laws.canonical_spells.Goals as goal
 
 pub returns-clause-spells : goal.returns-clause-spells
 returns-clause-spells c = canonical_spells

@@ -1,0 +1,6 @@
+pub mod Lists
+pub mod Plan
+pub mod Rows
+pub mod Cursor
+pub mod Steady
+pub mod Kept

@@ -1,0 +1,24 @@
+//! Laws of the lists.
+
+ghost use Rattle.mt_plan.specs.Steady.{PlansAreSteady, PlansAreCounted};
+ghost use Rattle.mt_plan.specs.Kept.{MarchOnKeptCells, KeptCells};
+
+/// The list of an algorithm is as long as its closed form says.
+pub fn lengths()
+    ensures { PlansAreCounted }
+{}
+
+/// Each read of a plan expects what the last write to its cell wrote, and no step leaves the cells.
+pub fn plans_are_steady()
+    ensures { PlansAreSteady }
+{}
+
+/// A march without the steps of other cells is the march on the kept ones, whatever the number of cells is.
+pub fn march_on_kept_cells()
+    ensures { MarchOnKeptCells }
+{}
+
+/// One cell or two, of those of a slice.
+pub fn kept_cells()
+    ensures { KeptCells }
+{}

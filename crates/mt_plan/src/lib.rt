@@ -1,0 +1,21 @@
+//! The algorithms of a RAM test, as lists of accesses to the cells of a slice.
+#![tactic(auto)]
+
+mod algorithm;
+mod counting;
+mod cursor;
+mod indexing;
+mod laws;
+mod marching;
+mod place;
+mod rounds;
+mod rows;
+
+pub use algorithm::{Act, Algorithm, Policy, Step};
+pub use counting::{hold_of, steps};
+pub use cursor::Steps;
+pub use indexing::step_at;
+pub use laws::{kept_cells, lengths, march_on_kept_cells, plans_are_steady};
+
+#[cfg(test)]
+mod tests;

@@ -1,0 +1,5 @@
+pub mod Feeds
+pub mod Lines
+pub mod Texts
+pub mod Turns
+pub mod Runs

@@ -1,0 +1,103 @@
+-- What judging a line gives.
+use Rattle.std.proofs.Common.{ℕ, ◌+◌, ◌-◌, ◌<◌, ◌≤◌, ◌≡◌, ◌≢◌, Bool, true, false, cond, List, [], ◌∷◌, ◌++◌, length, Option, Some, None, Result, Ok, Err, refl, sym, ap, ◌∙◌, subst, arith, append_assoc, append-nil}
+use Rattle.std.specs.Prelude.{nat_lt}
+use Rattle.std.proofs.lemmas.Bool.{le-ltb, lt-ltb}
+use Rattle.mt_port.specs.declared.board.Touch.{Touch}
+use Rattle.mt_text.specs.declared.line.Line.{Line}
+use Rattle.mt_text.specs.declared.line.LineRefusal.{LineRefusal}
+use Rattle.mt_text.specs.Lines.{line_of}
+use Rattle.mt_text.specs.Trace.{entries_text}
+use Rattle.mt_window.specs.declared.log.Entry.{Entry}
+use Rattle.mt_port.proofs.StreamLemmas.{Appends-nil, Appends-trans}
+use Rattle.mt_replay.specs.declared.config.Config.{Config}
+use Rattle.mt_replay.specs.declared.run.Fault.{Fault}
+use Rattle.mt_replay.specs.declared.run.Fault.TheVariants as fault
+use Rattle.mt_replay.specs.declared.run.Turn.{Turn}
+use Rattle.mt_replay.specs.declared.run.Turn.TheVariants as turn
+use Rattle.mt_replay.specs.declared.status.Status.{Status}
+use Rattle.mt_replay.specs.declared.status.Status.TheVariants as status
+use Rattle.mt_replay.specs.Machine.{Machine, Step, step}
+use Rattle.mt_replay.specs.Outcome.{Run, preceded, stepped, answered, judged, done}
+use Rattle.mt_replay.specs.Events.{Steps, Stays}
+use Rattle.mt_replay.specs.Run.{Change, Judging, IsPlain, Answered, Concludes, Refused, CutOff, Fronts, LineGives, EndGives}
+use Rattle.mt_replay.proofs.Texts.{entries_text-nil, AppendsFront-after, Logs-append}
+
+-- a line that is judged otherwise, but alike
+pub LineGives-same : (r : Result Turn Fault) (j k : Judging) (m' : Machine) (x : Change) → ((follow : Machine → Run) → k follow ≡ j follow) → LineGives r j m' x → LineGives r k m' x
+LineGives-same (Ok turn.More) j k m' x same p = record { text = p.text; touches = p.touches; written = p.written; taped = p.taped; run = λ follow. same follow ∙ p.run follow }
+LineGives-same (Ok (turn.Ended how)) j k m' x same p = record { more = p.more; plain = p.plain; text = p.text; touches = p.touches; written = p.written; taped = p.taped; run = λ follow. same follow ∙ p.run follow }
+LineGives-same (Err fault.Read) j k m' x same p = absurd p
+LineGives-same (Err fault.Write) j k m' x same p = record { text = p.text; written = p.written; run = λ follow. ((p.run follow).0, ap (λ (r : Run). r.text) (same follow) ∙ (p.run follow).1) }
+
+-- a refusal ends the script, whatever follows
+pub refused_line : (r : Result Turn Fault) (judge : Judging) (run : Run) (m' : Machine) (x : Change) → ((follow : Machine → Run) → judge follow ≡ run) → run.status ≢ status.Done
+    → EndGives r run m' x → LineGives r judge m' x
+refused_line (Ok turn.More) judge run m' x same other p = absurd p
+refused_line (Ok (turn.Ended how)) judge run m' x same other p = record {
+  more = λ e. other (ap (λ (r : Run). r.status) p.is ∙ e);
+  plain = p.plain;
+  text = p.text;
+  touches = p.touches;
+  written = p.written;
+  taped = p.taped;
+  run = λ follow. same follow ∙ p.is;
+}
+refused_line (Err fault.Read) judge run m' x same other p = absurd p
+refused_line (Err fault.Write) judge run m' x same other p = record { text = p.text; written = p.written; run = λ follow. (p.more, ap (λ (r : Run). r.text) (same follow) ∙ p.is) }
+
+-- a line that is answered with some entries
+pub answered_line : (c : Config) (m m' : Machine) (number : ℕ) (line : Line) (entries : List Entry) (x : Change) → Steps c m m' line entries x.tape x.tape'
+    → (text : List ℕ) → entries_text c.shape.width number entries ≡ text → Rattle.std.specs.Io.KnownBytes.Appends x.held x.held' text
+    → Answered (stepped c m number (step c m line)) m' x
+answered_line c m m' number line entries x s text e written = record {
+  text = text;
+  touches = s.touches;
+  written = written;
+  taped = s.taped;
+  run = λ follow. ap (λ (o : Option Step). stepped c m number o follow) s.step ∙ ap (λ (t : List ℕ). preceded t s.touches (follow m')) e;
+}
+
+-- a line whose entries could not be written in full
+pub fronted_line : (c : Config) (m m' : Machine) (number : ℕ) (line : Line) (entries : List Entry) (x : Change) → Steps c m m' line entries x.tape x.tape'
+    → Rattle.mt_port.specs.Streams.AppendsFront x.held x.held' (entries_text c.shape.width number entries)
+    → CutOff (stepped c m number (step c m line)) x
+fronted_line c m m' number line entries x s written = record {
+  text = entries_text c.shape.width number entries;
+  written = written;
+  run = λ follow. ((follow m').text, ap (λ (o : Option Step). (stepped c m number o follow).text) s.step);
+}
+
+-- a line of a number and a length that may be
+pub judged-is : (c : Config) (m : Machine) (number : ℕ) (line : List ℕ) (follow : Machine → Run) → number ≤ 1000000 → length line ≤ 1024
+    → judged c m number line follow ≡ answered c m number (line_of c.shape line) follow
+judged-is c m number line follow few short =
+    let one : nat_lt 1000000 number ≡ false = le-ltb _ _ few in
+    let two : nat_lt 1024 (length line) ≡ false = le-ltb _ _ short in
+    rw (one, two) refl
+
+-- an answered line, and then an end
+pub then_end : (r : Result Turn Fault) (judge : Judging) (m' : Machine) (run : Machine → Run) (x y z : Change) → y.held ≡ x.held' → y.tape ≡ x.tape' → z ≡ record x { held' = y.held'; tape' = y.tape' }
+    → Answered judge m' x → EndGives r (run m') m' y → EndGives r (judge run) m' z
+then_end (Ok turn.More) judge m' run x y z eh et ez p q = absurd q
+then_end (Ok (turn.Ended how)) judge m' run x y z eh et ez p q =
+    rw ez record {
+      plain = q.plain;
+      text = p.text ++ q.text;
+      touches = p.touches ++ q.touches;
+      written = Appends-trans x.held x.held' y.held' p.text q.text p.written (rw eh at q.written);
+      taped = Logs-append x.tape x.tape' y.tape' p.touches q.touches p.taped (rw et at q.taped);
+      is = p.run run ∙ ap (preceded p.text p.touches) q.is;
+    }
+then_end (Err fault.Read) judge m' run x y z eh et ez p q = absurd q
+then_end (Err fault.Write) judge m' run x y z eh et ez p q =
+    rw ez record {
+      text = p.text ++ q.text;
+      more = q.more;
+      written = AppendsFront-after x.held x.held' y.held' p.text q.text p.written (rw eh at q.written);
+      is = ap (λ (r : Run). r.text) (p.run run) ∙ ap (λ (t : List ℕ). p.text ++ t) q.is ∙ sym (append_assoc p.text q.text q.more);
+    }
+
+-- a line whose text could not be written in full, before an end
+pub cut_off_end : (f : Fault) (judge : Judging) (follow : Machine → Run) (m' : Machine) (x : Change) → LineGives (Err f) judge m' x → EndGives (Err f) (judge follow) m' x
+cut_off_end fault.Read judge follow m' x p = absurd p
+cut_off_end fault.Write judge follow m' x p = record { text = p.text; more = (p.run follow).0; written = p.written; is = (p.run follow).1 }

@@ -1,0 +1,6 @@
+pub mod Input
+pub mod Status
+pub mod Machine
+pub mod Outcome
+pub mod Run
+pub mod Events

@@ -1,0 +1,96 @@
+-- The machine that a script drives: the board, and the RAM test over it. Each line is one event.
+use Rattle.std.specs.Prelude.{ℕ, ◌≡◌, false, List, [], ◌∷◌, Option, Some, None, is_some, if◌then◌else◌, slice_set}
+use Rattle.mt_port.specs.declared.board.Shape.{Shape}
+use Rattle.mt_port.specs.declared.board.Touch.{Touch}
+use Rattle.mt_port.specs.declared.request.Request.{Request}
+use Rattle.mt_port.specs.declared.request.AppOp.{AppOp}
+use Rattle.mt_port.specs.declared.request.Answer.{Answer}
+use Rattle.mt_port.specs.declared.request.Answer.TheVariants as answers
+use Rattle.mt_port.specs.Board.{Board, op_words, op_answer, injected, flipped, powered_up, IsWithinLimits}
+use Rattle.mt_fault.specs.declared.fault.Fault.{Fault}
+use Rattle.mt_fault.specs.declared.fault.Spot.{Spot}
+use Rattle.mt_window.specs.declared.log.Entry.{Entry}
+use Rattle.mt_window.specs.declared.log.Entry.TheVariants.{Own}
+use Rattle.mt_window.specs.declared.reply.Reply.{Reply}
+use Rattle.mt_window.specs.declared.reply.Reply.TheVariants as reply
+use Rattle.mt_window.specs.declared.reply.Value.TheVariants as value
+use Rattle.mt_window.specs.declared.reply.TestResult.TheVariants as outcome
+use Rattle.mt_text.specs.declared.line.Event.{Event}
+use Rattle.mt_text.specs.declared.line.Event.TheVariants as event
+use Rattle.mt_text.specs.declared.line.Line.{Line}
+use Rattle.mt_replay.specs.declared.config.Config.{Config}
+use Rattle.mt_replay.specs.declared.ram.Ram.{Ram}
+use Rattle.mt_replay.specs.declared.ram.State.TheVariants as state
+
+pub record Machine : Type 0 where
+  pub board : Board
+  pub ram : Ram
+
+-- what a line makes of the machine, what it enters in the trace, and the test accesses that it makes
+pub record Step : Type 0 where
+  pub after : Machine
+  pub entries : List Entry
+  pub touches : List Touch
+
+-- a line that only replies
+abbrev pub replied : Machine → Reply → Step
+replied after reply = record { after = after; entries = Own reply ∷ []; touches = [] }
+
+abbrev pub on_board : Machine → Board → Machine
+on_board m board = record { board = board; ram = m.ram }
+
+-- the reply to an operation of the application
+abbrev pub given : Answer → Reply
+given answers.Done = reply.Done
+given (answers.Word w) = reply.Value (value.Word w)
+
+abbrev pub operated : Machine → AppOp → Step
+operated m op = replied (on_board m (record (m.board) { words = op_words m.board op })) (given (op_answer m.board op))
+
+-- an injection while a fault is there changes nothing
+abbrev pub injecting : Machine → Fault → Step
+injecting m fault = if is_some m.board.fault then replied m reply.Present else replied (on_board m (injected m.board fault)) reply.Done
+
+abbrev pub healing : Machine → Step
+healing m = replied (on_board m (record (m.board) { fault = None })) reply.Done
+
+abbrev pub burning : Machine → ℕ → ℕ → Step
+burning m addr word = replied (on_board m (record (m.board) { flash = slice_set m.board.flash addr word })) reply.Done
+
+abbrev pub flipping : Machine → Spot → Step
+flipping m at = replied (on_board m (record (m.board) { flash = flipped m.board.flash at })) reply.Done
+
+-- what an event does; none, where no module answers it yet
+abbrev pub by_event : Config → Machine → Event → List Request → Option Step
+by_event c m event.Nothing requests = Some (record { after = m; entries = []; touches = [] })
+by_event c m (event.Ram call) requests = None
+by_event c m (event.Fls call) requests = None
+by_event c m event.TickRam requests = None
+by_event c m event.TickFls requests = None
+by_event c m (event.App op) requests = Some (operated m op)
+by_event c m (event.Inject fault) requests = Some (injecting m fault)
+by_event c m event.Heal requests = Some (healing m)
+by_event c m (event.Burn addr word) requests = Some (burning m addr word)
+by_event c m (event.Flip at) requests = Some (flipping m at)
+
+-- one line
+unfoldable pub step : Config → Machine → Line → Option Step
+step c m line = by_event c m line.event line.requests.items
+
+-- the machine at the start, on a board with a defect or none
+abbrev pub started : Config → Option Fault → Machine
+started c defect = record {
+  board = powered_up c.shape 0 defect;
+  ram = record { state = state.Uninit; result = outcome.NotTested; failed = false };
+}
+
+-- what an accepted configuration keeps
+pub record IsAccepted (c : Config) : Type 0 where
+  pub sizes : IsWithinLimits c.shape
+
+-- Between two lines the board has the configuration's shape, nothing is held, and no request is left.
+pub record IsReady (c : Config) (m : Machine) : Type 0 where
+  pub accepted : IsAccepted c
+  pub shape : m.board.shape ≡ c.shape
+  pub free : m.board.held ≡ false
+  pub none : m.board.left ≡ []

@@ -1,0 +1,47 @@
+//! The lines that close a trace.
+
+ghost use Rattle.std.specs.Prelude.{◌≡◌, codes, ◌++◌};
+ghost use Rattle.mt_replay.specs.Outcome.{done_text, refused_text, bad_config_text};
+
+use arrayvec::ArrayVec;
+use mt_text::{push_bytes, push_number};
+
+/// A closing line: at most 64 bytes.
+pub type Text = ArrayVec<u8, 64>;
+
+/// The line of a whole script of so many lines.
+pub fn done_text(count: u32) -> Text
+    ensures { result.items ≡ done_text count }
+{
+    let mut text = ArrayVec::new();
+    push_bytes(&mut text, b"end ok ");
+    push_number(&mut text, count);
+    push_bytes(&mut text, b"\n");
+    text
+}
+
+/// The line of a refused script line.
+pub fn refused_text(line: u32, code: u8, place: u32) -> Text
+    ensures { result.items ≡ refused_text line code place }
+{
+    let mut text = ArrayVec::new();
+    push_bytes(&mut text, b"bad line ");
+    push_number(&mut text, line);
+    push_bytes(&mut text, b" ");
+    push_number(&mut text, u32::from(code));
+    push_bytes(&mut text, b" ");
+    push_number(&mut text, place);
+    push_bytes(&mut text, b"\n");
+    text
+}
+
+/// The line of a refused configuration.
+pub fn bad_config_text(code: u8) -> Text
+    ensures { result.items ≡ bad_config_text code }
+{
+    let mut text = ArrayVec::new();
+    push_bytes(&mut text, b"bad config ");
+    push_number(&mut text, u32::from(code));
+    push_bytes(&mut text, b"\n");
+    text
+}

@@ -1,0 +1,4 @@
+pub mod Sequence
+pub mod Tape
+pub mod Makes
+pub mod Laws
