@@ -75,7 +75,7 @@ pieces shape ev rs = words false (event_words shape.width ev) ++ requests_pieces
 
 -- a line whose event has words
 some_spells : (shape : Shape) (ev : Event) (rs : List Request) → IsWithinLimits shape → IsSoundEvent shape ev → AreSoundRequests shape rs → AreFor (running_module ev) rs → IsSome ev → Spells shape (text_of (pieces shape ev rs)) (line ev rs)
-unfolding pieces
+unfolding pieces Spells
 some_spells shape ev rs w h r f s =
     let ps = pieces shape ev rs in
     let ws = event_words shape.width ev ++ pieces_of (requests_pieces shape.width rs) in
@@ -89,7 +89,7 @@ some_spells shape ev rs w h r f s =
 
 -- an empty line
 nothing_spells : (shape : Shape) → Spells shape [] (line Nothing [])
-unfolding tokens
+unfolding tokens Spells
 nothing_spells shape = record { last = done Start; leads = leads_of_path shape (done Start) [] [] (done Start) refl refl; ends = refl }
 
 line_spells : (shape : Shape) (ev : Event) (rs : List Request) → IsWithinLimits shape → IsSoundEvent shape ev → AreSoundRequests shape rs → AreFor (running_module ev) rs → Spells shape (text_of (pieces shape ev rs)) (line ev rs)

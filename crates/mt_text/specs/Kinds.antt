@@ -31,6 +31,7 @@ GoesOn form (bytes ∷ rest) = (next : Form Part) × Allows (settled form) bytes
 abbrev pub IsOfKinds : List (List ℕ) → Type 0
 IsOfKinds tokens = GoesOn (done Start) tokens
 
+-- the bytes of tokens, without their places
 abbrev pub bytes_of : List Token → List (List ℕ)
 bytes_of [] = []
 bytes_of (t ∷ ts) = t.bytes ∷ bytes_of ts

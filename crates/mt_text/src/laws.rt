@@ -1,6 +1,6 @@
 //! What holds of all texts.
 
-ghost use Rattle.std.specs.Prelude.{◌≡◌, ◌<◌, ◌≤◌, ◌^◌, ◌↔◌, ◌∷◌, ◌++◌, [], ℕ, List, true, Some, decimal, length, map};
+ghost use Rattle.std.specs.Prelude.{◌≡◌, ◌<◌, ◌≤◌, ◌^◌, ◌↔◌, ◌∷◌, ◌++◌, [], ℕ, List, true, Some, Ok, Err, decimal, length, map};
 ghost use Rattle.std.specs.List.{list_all};
 ghost use Rattle.mt_word.specs.Word.{Fits};
 ghost use Rattle.mt_word.specs.declared.Width.{Width};
@@ -11,12 +11,18 @@ ghost use Rattle.mt_text.specs.Accepted.{IsAccepted};
 ghost use Rattle.mt_text.specs.Canonical.{canonical};
 ghost use Rattle.mt_text.specs.Digits.{word_text};
 ghost use Rattle.mt_text.specs.Kinds.{IsOfKinds, bytes_of};
-ghost use Rattle.mt_text.specs.Lines.{Spells, SpellsTokens, Refuses, FirstBroken};
+ghost use Rattle.mt_text.specs.Lines.{line_of, Spells, SpellsTokens, Refuses, FirstBroken};
 ghost use Rattle.mt_text.specs.Tokens.{Token, tokens, number_of, is_hex, hex, hex_of, upper};
 ghost use Rattle.mt_text.specs.Trace.{entry_text, entries_text};
 ghost use Rattle.mt_text.specs.declared.line.Line.{Line};
 ghost use Rattle.mt_text.specs.declared.line.LineKind.TheVariants.{Spelling};
 ghost use Rattle.mt_text.specs.declared.line.LineRefusal.{LineRefusal};
+
+/// Reading, as a function of the text, gives the line that the text spells, and else its refusal.
+pub fn reading_is_spelling()
+    ensures ok { (shape : Shape) (text : List ℕ) (line : Line) → (line_of shape text ≡ Ok line) ↔ Spells shape text line }
+    ensures err { (shape : Shape) (text : List ℕ) (e : LineRefusal) → (line_of shape text ≡ Err e) ↔ Refuses shape text e }
+{}
 
 /// A text spells one line, and one that spells a line is refused for nothing.
 pub fn one_line()

@@ -410,7 +410,13 @@ fn spelled_lines(rt: HostRuntime) {
     }
     assert_eq!(rt; count, 72);
     assert!(rt; is_spelled(b"app w 0 C4", shape(Width::W16, 0), b"app w 0 00c4"));
-    assert!(rt; is_spelled(b"app w 0 DeadBeef", shape(Width::W32, 0), b"app w 0 deadbeef"));
+    assert!(rt;
+        is_spelled(
+            b"app w 0 DeadBeef",
+            shape(Width::W32, 0),
+            b"app w 0 deadbeef"
+        )
+    );
 }
 
 #[test]
