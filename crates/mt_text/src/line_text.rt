@@ -63,7 +63,7 @@ fn push_requests(out: &mut LineText, width: Width, requests: &[Request])
 
 /// The canonical text of a line, with a line feed.
 #[tactic(auto, unfolding(crate::specs::Canonical::canonical))]
-fn line_text(line: &Line, width: Width) -> LineText
+pub fn line_text(line: &Line, width: Width) -> LineText
     ensures { result.items ≡ canonical width line.now ++ codes "\n" }
 {
     let mut out = ArrayVec::new();
