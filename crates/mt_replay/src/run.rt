@@ -93,6 +93,7 @@ fn refuse<K: Sink>(sink: &mut K, line: u32, code: u8, place: u32) -> Result<Stat
 fn finish_turn<K: Sink>(sink: &mut K, count: u32) -> Result<Turn, Fault>
     ensures gives { (m : Machine) (told : _) → EndGives result (done m count) m
         (record { left = None; left' = None; held = K.held sink.old; held' = K.held sink.new; tape = told; tape' = told }) }
+    ensures ended { result ≢ Ok Turn.More }
     ensures cause { SinkCaused result (K.faults sink.old) (K.faults sink.new) }
 {
     Ok(Turn::Ended(finish(sink, count)?))
@@ -102,6 +103,7 @@ fn finish_turn<K: Sink>(sink: &mut K, count: u32) -> Result<Turn, Fault>
 fn refuse_turn<K: Sink>(sink: &mut K, line: u32, code: u8, place: u32) -> Result<Turn, Fault>
     ensures gives { (m : Machine) (told : _) → EndGives result (refused m line code place) m
         (record { left = None; left' = None; held = K.held sink.old; held' = K.held sink.new; tape = told; tape' = told }) }
+    ensures ended { result ≢ Ok Turn.More }
     ensures cause { SinkCaused result (K.faults sink.old) (K.faults sink.new) }
 {
     Ok(Turn::Ended(refuse(sink, line, code, place)?))

@@ -62,7 +62,7 @@ Makes-append {xs} {ys} {a} {b} {c} {ta} {tb} {tc} {p} {q} sound first second =
       count = omega (arith, second.count, count);
       inside = All-append (λ x. place x < length a.words) xs ys first.inside inside;
       pass = both _ _ _ _ first.pass (second.pass ∙ ap (λ (x : Board). passes x.fault x.words [] ys) first.state ∙ sym (passes_cut a.shape.width a.fault a.words [] (history xs) placed ys inside) ∙ ap (λ h. passes a.fault a.words h ys) (sym (append-nil (history xs))))
-      ∙ sym (passes-append a.fault a.words [] xs ys);
+          ∙ sym (passes-append a.fault a.words [] xs ys);
       tape = subst (Logs ta tc) (sym (map-append touch_of xs ys)) (Logs-append ta tb tc _ _ first.tape second.tape);
     }
 

@@ -21,7 +21,8 @@ use Rattle.mt_plan.specs.declared.algorithm.Act.TheVariants.{WritePlain, WriteFl
 use Rattle.mt_plan.specs.declared.algorithm.Step.{Step}
 use Rattle.mt_plan.specs.Lists.{cells}
 use Rattle.mt_march.specs.Accepted.{wrote as may_expect}
-use Rattle.mt_plan.specs.Steady.{steady, IsSteady, IsInside}
+use Rattle.mt_plan.specs.Steady.{steady}
+use Rattle.mt_plan.proofs.SteadyPlans.{steady_plans}
 use Rattle.mt_plan.specs.Plan.{steps_of}
 use Rattle.mt_port.specs.Board.{Board}
 use Rattle.mt_seq.specs.declared.sequence.Slice.{Slice}
@@ -101,10 +102,10 @@ sound_write : (width : Width) (first : List ℕ) (h : History) (base : ℕ) (bac
     → (j : ℕ) → Holds width (back j) (after_write u cell wrote j) (plain first (Write (base + cell) (worth width (back cell) wrote) ∷ h) (base + j))
 sound_write width first h base back u cell wrote holds j =
     elim (cases_eq cell j) [
-      inl e ↦ (let here : (cell == j) ≡ true = eq-eqb _ _ e in
+      | inl e ↦ (let here : (cell == j) ≡ true = eq-eqb _ _ e in
           let at : (base + j == base + cell) ≡ true = eq-eqb _ _ (omega arith) in
           rw (here, at) (ap (λ (c : ℕ). worth width (back c) wrote) e))
-    | inr e ↦ (let here : (cell == j) ≡ false = ne_eqb _ _ e in
+      | inr e ↦ (let here : (cell == j) ≡ false = ne_eqb _ _ e in
           let at : (base + j == base + cell) ≡ false = ne_eqb _ _ (λ x. e (omega arith)) in
           rw (here, at) (holds j))
     ]
@@ -161,7 +162,7 @@ one_read : (width : Width) (first : List ℕ) (base : ℕ) (back : ℕ → ℕ) 
 one_read width first base back more rest u h cell flipped st holds =
     both _ true _ true
     (eq-eqb _ _ (expected width (back cell) (u cell) flipped (plain first h (base + cell)) (holds cell)
-        (and_left _ _ (cond_true (cell == cell) (may_expect (u cell) flipped && steady cell (u cell) more) (steady cell (u cell) more) (eq-eqb cell cell refl) (st cell)))))
+    (and_left _ _ (cond_true (cell == cell) (may_expect (u cell) flipped && steady cell (u cell) more) (steady cell (u cell) more) (eq-eqb cell cell refl) (st cell)))))
     (rest u (Read (base + cell) ∷ h) (λ j. steady_read (cell == j) (may_expect (u j) flipped) (steady j (u j) more) (st j)) holds)
 
 one_step : (width : Width) (first : List ℕ) (base : ℕ) (back : ℕ → ℕ) (more : List Step) → Rest width first base back more
@@ -186,7 +187,7 @@ sound_passes b job slice e accepted =
     let steps = steps_of job.alg slice.n in
     let saved = saved_words job.policy b.fault b.words slice in
     let front = history (saving job.policy slice) in
-    let st : IsSteady steps = ? in
+    let st = (steady_plans job.alg slice.n accepted).steady in
     ap verdict_of (passes-sequence b job slice steps
     ∙ ap (λ (f : Option Fault). passes f b.words front (testing b.shape.width job slice saved steps)) e
     ∙ passes-plain b.shape.width b.words slice.first (back_of job saved) steps (λ j. None) front (λ j. st j) (λ j. tt))
@@ -222,8 +223,8 @@ ended first base w zero k h lt = absurd (omega arith)
 ended first base w (suc n) k h lt =
     ap (λ (l : History). plain first l (base + k)) (ends-more base w n h)
     ∙ elim (cases_eq k n) [
-      inl e ↦ (let at : (base + k == base + n) ≡ true = eq-eqb _ _ (omega arith) in rw at (ap w (sym e)))
-    | inr e ↦ (let at : (base + k == base + n) ≡ false = ne_eqb _ _ (λ x. e (omega arith)) in rw at (ended first base w n k h (below k n lt e)))
+      | inl e ↦ (let at : (base + k == base + n) ≡ true = eq-eqb _ _ (omega arith) in rw at (ap w (sym e)))
+      | inr e ↦ (let at : (base + k == base + n) ≡ false = ne_eqb _ _ (λ x. e (omega arith)) in rw at (ended first base w n k h (below k n lt e)))
     ]
   where
     below : (k n : ℕ) → k < suc n → k ≢ n → k < n
@@ -242,8 +243,8 @@ cell_of f (suc n) j d h =
     let long : length (map f (cells n)) ≡ n = length-map (cells n) f ∙ length-cells n in
     ap (λ l. get_or l j d) (map-append f (cells n) (n ∷ []))
     ∙ elim (cases_eq j n) [
-      inl e ↦ ap (λ i. get_or (map f (cells n) ++ f n ∷ []) i d) (e ∙ sym long) ∙ get_or-append_seam (map f (cells n)) (f n) [] d ∙ ap f (sym e)
-    | inr e ↦ get_or-append (map f (cells n)) (f n ∷ []) d j (omega arith) ∙ cell_of f n j d (omega arith)
+      | inl e ↦ ap (λ i. get_or (map f (cells n) ++ f n ∷ []) i d) (e ∙ sym long) ∙ get_or-append_seam (map f (cells n)) (f n) [] d ∙ ap f (sym e)
+      | inr e ↦ get_or-append (map f (cells n)) (f n ∷ []) d j (omega arith) ∙ cell_of f n j d (omega arith)
     ]
 
 -- no access of a sequence is at another address than those of its slice
@@ -293,10 +294,10 @@ Places slice a = ((is_in slice a ≡ true) × (slice.first ≤ a) × (a - slice.
 places : (slice : Slice) (a : ℕ) → Places slice a
 places slice a =
     elim (cases_lt a slice.first) [
-      inl below ↦ inr (let e : nat_le slice.first a ≡ false = lt-leb _ _ below in rw e refl, outside_below slice a below)
-    | inr from ↦ elim (cases_lt a (slice.first + slice.n)) [
-        inl to ↦ inl (let e : nat_le slice.first a ≡ true = le-leb _ _ from in let f : nat_lt a (slice.first + slice.n) ≡ true = lt-ltb _ _ to in rw (e, f) refl, from, omega arith)
-      | inr above ↦ inr (let f : nat_lt a (slice.first + slice.n) ≡ false = le-ltb _ _ above in let e : nat_le slice.first a ≡ true = le-leb _ _ from in rw (e, f) refl, outside_above slice a above)
+      | inl below ↦ inr (let e : nat_le slice.first a ≡ false = lt-leb _ _ below in rw e refl, outside_below slice a below)
+      | inr from ↦ elim (cases_lt a (slice.first + slice.n)) [
+        | inl to ↦ inl (let e : nat_le slice.first a ≡ true = le-leb _ _ from in let f : nat_lt a (slice.first + slice.n) ≡ true = lt-ltb _ _ to in rw (e, f) refl, from, omega arith)
+        | inr above ↦ inr (let f : nat_lt a (slice.first + slice.n) ≡ false = le-ltb _ _ above in let e : nat_le slice.first a ≡ true = le-leb _ _ from in rw (e, f) refl, outside_above slice a above)
       ]
     ]
 
@@ -324,15 +325,15 @@ left_word b job slice steps a none in' =
     let saved = saved_words job.policy b.fault b.words slice in
     let front = saving job.policy slice ++ testing b.shape.width job slice saved steps in
     elim (places slice a) [
-      inl p ↦ (let e : a ≡ slice.first + (a - slice.first) = omega (arith, p.1) in
+      | inl p ↦ (let e : a ≡ slice.first + (a - slice.first) = omega (arith, p.1) in
           ap (plain b.words (history (front ++ ending job slice saved))) e
           ∙ left_in b.shape.width b.words job slice saved front (a - slice.first) p.2
           ∙ last_saved b.fault b.words job.policy job.fill slice a none p.0 p.1 p.2)
-    | inr q ↦ left_out b.words slice (front ++ ending job slice saved) a
-        (All-append (Off a) front (ending job slice saved)
+      | inr q ↦ left_out b.words slice (front ++ ending job slice saved) a
+          (All-append (Off a) front (ending job slice saved)
           (All-append (Off a) (saving job.policy slice) (testing b.shape.width job slice saved steps) (off_saving job.policy slice a q.1) (off_testing b.shape.width job slice saved steps a q.1 in'))
           (All-map (Off a) (λ (cell : ℕ). Store (slice.first + cell) (last_of job.policy job.fill saved cell)) (cells slice.n) (λ k d h. q.1 _ (cells_below slice.n k d h))))
-        ∙ unchanged b.words job.policy job.fill slice a q.0
+          ∙ unchanged b.words job.policy job.fill slice a q.0
     ]
 
 -- maps that agree on a range are one
@@ -352,7 +353,7 @@ pub sound_stays : SoundMemoryStays
 unfolding sequence_words sequence
 sound_stays b job slice none accepted =
     let steps = steps_of job.alg slice.n in
-    let in' : IsInside slice.n steps = ? in
+    let in' = (steady_plans job.alg slice.n accepted).inside in
     ap (λ (f : Option Fault). words_after f b.words (history (accesses_of b job slice steps))) none
     ∙ plain_words b.words (history (accesses_of b job slice steps))
     ∙ map-range _ _ (λ a. left_word b job slice steps a none in') (range_with_len 0 (length b.words))

@@ -48,8 +48,8 @@ ran job slice steps {a} {b} {c} {d} {ta} {tb} {tc} {td} {pass} free e te m f tf 
     let words = ap (λ (x : Board). x.words) e in
     record {
       state = f ∙ ap (λ (x : Board). record x { held = false }) (m.state ∙ ap (after_all b) items ∙ ap (λ (x : Board). after_all x (accesses_of a job slice steps)) e)
-      ∙ ap (λ (h : Bool). record (after_all a (accesses_of a job slice steps)) { held = h }) (sym free)
-      ∙ ap (λ (n : ℕ). record a { words = words_after a.fault a.words (history (accesses_of a job slice steps)); count = a.count + n }) (length-accesses_of a job slice steps);
+          ∙ ap (λ (h : Bool). record (after_all a (accesses_of a job slice steps)) { held = h }) (sym free)
+          ∙ ap (λ (n : ℕ). record a { words = words_after a.fault a.words (history (accesses_of a job slice steps)); count = a.count + n }) (length-sequence a job slice steps);
       pass = m.pass ∙ ap (passes b.fault b.words []) items ∙ ap (λ (x : Board). passes x.fault x.words [] (accesses_of a job slice steps)) e;
       tape = rw (← te, tf, ← items) m.tape;
     }

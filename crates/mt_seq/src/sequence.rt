@@ -159,3 +159,39 @@ pub fn run_slice<P: Port>(port: &mut P, job: &Job, slice: Slice) -> Verdict
     port.release();
     verdict_from(pass)
 }
+
+#[cfg(test)]
+mod tests {
+    use super::*;
+    use mt_march::march_c_minus;
+    use mt_port::{PlainBoard, Shape, Touch};
+    use std::test::Fail;
+
+    #[test]
+    fn march_c_minus_on_one_word(rt: HostRuntime) -> Result<(), Fail> {
+        let shape = Shape {
+            width: Width::W8,
+            ram: 10,
+            flash: 0,
+        };
+        let mut board = PlainBoard::new(rt.alloc(), shape, 0).ok().ok_or("memory")?;
+        let job = Job {
+            alg: Algorithm::March(march_c_minus()),
+            policy: Policy::NonDestructive,
+            background: 0,
+            fill: 0,
+        };
+        let verdict = run_slice(&mut board, &job, Slice { first: 9, n: 1 });
+        assert_eq!(rt; verdict, Verdict::Pass);
+        assert_eq!(rt; board.made(), 12);
+        let addr = 9;
+        let read = Touch::Read { addr };
+        let zero = Touch::Write { addr, word: 0 };
+        let one = Touch::Write { addr, word: 255 };
+        let want = [
+            read, zero, read, one, read, zero, read, one, read, zero, read, zero,
+        ];
+        assert_eq!(rt; board.tape().ok_or("told")?, want.as_slice());
+        Ok(())
+    }
+}

@@ -57,10 +57,8 @@ pub(crate) fn is_transparent(alg: &Algorithm) -> bool
 {
     match alg {
         Algorithm::TransparentGalpat => true,
-        Algorithm::Checkerboard
-        | Algorithm::March(_)
-        | Algorithm::WalkPath
-        | Algorithm::Galpat => false,
+        Algorithm::Checkerboard | Algorithm::March(_) | Algorithm::WalkPath | Algorithm::Galpat =>
+            false,
     }
 }
 
@@ -96,7 +94,13 @@ pub(crate) fn make_step<P: Port>(
     ensures { Makes (item_of width slice.first (back_of job.now saved.now) step ∷ []) (P.state port.old) (P.state port.new) (P.tape port.old) (P.tape port.new) result }
 {
     let back = back_at(job, saved, step.cell);
-    act(port, width, slice.first + u32::from(step.cell), back, step.act)
+    act(
+        port,
+        width,
+        slice.first + u32::from(step.cell),
+        back,
+        step.act,
+    )
 }
 
 // The word that a cell is left with.

@@ -1,0 +1,20 @@
+use Rattle.std.proofs.Common.{◌≡◌, ◌≢◌, Ok, Bool, true, false, refl, subst}
+use Rattle.std.specs.Io.KnownBytes.{prepend_known}
+use Rattle.mt_replay.specs.declared.run.Turn.TheVariants as turn
+use Rattle.mt_replay.specs.Machine.{Machine}
+use Rattle.mt_replay.specs.Outcome.{done, refused}
+use Rattle.mt_replay.specs.Run.{EndGives}
+use Rattle.mt_replay.proofs.Runs.{change, end_turn, past_leaves, past_done, past_breaks}
+use Rattle.mt_replay.proofs.run.run_past.Goals as goal
+
+pub returns-in-Ok-true-clause-gives : goal.returns-in-Ok-true-clause-gives
+returns-in-Ok-true-clause-gives g c = λ config m told.
+    end_turn c.refuse_turn.result config m m 1000001 (refused m 1000001 11 1) _ _ _ _ told told
+    (past_leaves config m _ (g.S.Source.left c.fill.new.source) _ (c.in-Ok-true.ensures.some c.in-Ok-true.field-0-test) (rw c.in-Ok-true.field-0-test at c.in-Ok-true.ensures.ok)) (c.refuse_turn.ensures.gives m told)
+
+pub returns-in-Ok-false-clause-gives : goal.returns-in-Ok-false-clause-gives
+returns-in-Ok-false-clause-gives g c = λ config m told.
+    end_turn c.finish_turn.result config m m 1000001 (done m 1000000) _ _ _ _ told told (past_done config m _ _ (rw c.in-Ok-false.field-0-test at c.in-Ok-false.ensures.ok)) (c.finish_turn.ensures.gives m told)
+
+pub returns-in-Err-clause-gives : goal.returns-in-Err-clause-gives
+returns-in-Err-clause-gives g c = λ config m told. past_breaks config m _ _ _ told c.in-Err.ensures.err
