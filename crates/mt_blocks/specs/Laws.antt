@@ -1,5 +1,5 @@
 -- What slices, passes and groups are made of.
-use Rattle.std.specs.Prelude.{ℕ, suc, ◌+◌, ◌-◌, ◌*◌, ◌<◌, ◌≤◌, ◌≡◌, true, false, List, [], ◌∷◌, ◌++◌, map, length, take, slice_index_or}
+use Rattle.std.specs.Prelude.{ℕ, suc, ◌+◌, ◌<◌, ◌≤◌, ◌≡◌, false, List, [], ◌∷◌, ◌++◌, length, take, All}
 use Rattle.std.specs.List.{range_with_len}
 use Rattle.mt_seq.specs.declared.sequence.Slice.{Slice}
 use Rattle.mt_blocks.specs.declared.span.Span.{Span}
@@ -29,11 +29,14 @@ abbrev pub SlicesAreTheBlock : Type 0
 SlicesAreTheBlock =
     (K i : ℕ) (s : Span) → 1 ≤ K → s.first ≤ s.last → addresses_of (pieces K i s) ≡ range_with_len s.first (span_len s)
 
--- a slice has K words, or it is its block's last and has no more
+-- a slice has 1 to K words, and K of them unless it is its block's last
+pub record IsWhole (K : ℕ) (p : Piece) : Type 0 where
+  pub some : 1 ≤ p.slice.n
+  pub small : p.slice.n ≤ K
+  pub whole : p.last ≡ false → p.slice.n ≡ K
+
 abbrev pub OnlyTheLastIsShorter : Type 0
-OnlyTheLastIsShorter =
-    (K i k : ℕ) (s : Span) (p : Piece) → 1 ≤ K → k < length (pieces K i s) → p ≡ slice_index_or (pieces K i s) k p
-    → (1 ≤ p.slice.n) × (p.slice.n ≤ K) × (p.last ≡ false → p.slice.n ≡ K)
+OnlyTheLastIsShorter = (K i : ℕ) (s : Span) → 1 ≤ K → s.first ≤ s.last → All (IsWhole K) (pieces K i s)
 
 -- a group has at most so many words
 abbrev pub GroupsFit : Type 0

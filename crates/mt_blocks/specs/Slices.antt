@@ -68,6 +68,14 @@ next_of K spans p =
     if nat_lt K (span_len (span_at spans p.block) - p.offset) then Some (record { block = p.block; offset = p.offset + K })
     else (if nat_lt (p.block + 1) (length spans) then Some (record { block = p.block + 1; offset = 0 }) else None)
 
+-- where a pass begins; nowhere where there is no block
+abbrev pub start : Position
+start = record { block = 0; offset = 0 }
+
+abbrev pub start_of : List Span → Option Position
+start_of [] = None
+start_of (s ∷ more) = Some start
+
 -- spans that are cut into slices of K words
 pub record AreSpans (K : ℕ) (spans : List Span) : Type 0 where
   pub some : 1 ≤ K

@@ -1,7 +1,7 @@
 //! Slices, passes, groups and ticks.
 
 ghost use Rattle.std.specs.Prelude.{◌≡◌, ◌≤◌, ◌+◌, length, map};
-ghost use Rattle.mt_blocks.specs.Slices.{AreSpans, IsValid, span_at, slice_of, ends_block, next_of, from_place, pass};
+ghost use Rattle.mt_blocks.specs.Slices.{AreSpans, IsValid, span_at, slice_of, ends_block, next_of, start_of, from_place, pass};
 ghost use Rattle.mt_blocks.specs.Groups.{group_len, ticks};
 
 use crate::span::{HasSpan, span_in};
@@ -70,7 +70,6 @@ pub fn group_len<T: HasSpan>(blocks: &[T], atomic: u32, cells: u32, at: Position
     requires valid { IsValid atomic (map T.span_of blocks.now) at }
     requires cells { atomic ≤ cells }
     ensures len { result ≡ group_len cells (from_place atomic (map T.span_of blocks.now) at) }
-    ensures some { 1 ≤ result }
     ensures few { result ≤ cells }
 {
     let mut left = cells;
@@ -89,7 +88,9 @@ pub fn group_len<T: HasSpan>(blocks: &[T], atomic: u32, cells: u32, at: Position
 }
 
 // The position of a pass's first slice; none where there is no block.
-fn first_place<T: HasSpan>(blocks: &[T]) -> Option<Position> {
+fn first_place<T: HasSpan>(blocks: &[T]) -> Option<Position>
+    ensures { result ≡ start_of (map T.span_of blocks.now) }
+{
     if blocks.is_empty() {
         return None;
     }
@@ -110,11 +111,12 @@ pub fn ticks_of<T: HasSpan>(blocks: &[T], atomic: u32, cells: u32) -> u32
     let mut next = first_place(blocks);
     while let Some(place) = next {
         let words = u32::from(slice_at(blocks, atomic, place).n);
-        if words > left {
+        if words <= left {
+            left -= words;
+        } else {
             ticks += 1;
-            left = cells;
+            left = cells - words;
         }
-        left -= words;
         next = following(blocks, atomic, place);
     }
     ticks
