@@ -11,7 +11,8 @@ use Rattle.mt_window.specs.declared.log.Entry.TheVariants.{Own}
 use Rattle.mt_replay.specs.declared.config.Config.{Config}
 use Rattle.mt_replay.specs.declared.event.Answer.{Answer}
 use Rattle.mt_replay.specs.declared.event.Answer.TheVariants as answer
-use Rattle.mt_replay.specs.Machine.{Machine, Step, step}
+use Rattle.mt_replay.specs.Machine.{Step, step}
+use Rattle.mt_replay.specs.Ram.{Machine}
 
 -- The line is answered with these entries, and these accesses are made.
 pub record Steps (c : Config) (m m' : Machine) (line : Line) (entries : List Entry) (tape tape' : Option (List Touch)) : Type 0 where

@@ -2,7 +2,8 @@
 
 ghost use Rattle.std.specs.Prelude.{◌≡◌};
 ghost use Rattle.mt_text.specs.Accepted.{IsAccepted as IsAcceptedLine};
-ghost use Rattle.mt_replay.specs.Machine.{Machine, IsReady, given};
+ghost use Rattle.mt_replay.specs.Machine.{IsReady, given};
+ghost use Rattle.mt_replay.specs.Ram.{Machine};
 ghost use Rattle.mt_fault.specs.Placement.{IsWellPlaced};
 ghost use Rattle.mt_replay.specs.Events.{AnswerGives, Injects};
 
