@@ -64,26 +64,39 @@ flipping m at = replied (on_board m (record (m.board) { flash = flipped m.board.
 
 -- ---- the RAM test
 
-abbrev pub with_ram : Machine → Ram → Machine
-with_ram m ram = record { board = m.board; ram = ram }
+-- a service of the RAM test, or a refusal, that leaves a state and answers
+pub record Called : Type 0 where
+  pub ram : Ram
+  pub reply : Reply
 
 -- Init: to Stopped, with nothing tested
-abbrev pub init : Machine → State → Step
-init m state.Uninit = replied (with_ram m (record { state = state.Stopped; result = outcome.NotTested; failed = false })) reply.Done
-init m state.Stopped = replied m (reply.Refused refusal.Status)
-init m (state.Running k) = replied m (reply.Refused refusal.Status)
+abbrev pub init : Ram → State → Called
+init ram state.Uninit = record { ram = record { state = state.Stopped; result = outcome.NotTested; failed = false }; reply = reply.Done }
+init ram state.Stopped = record { ram = ram; reply = reply.Refused refusal.Status }
+init ram (state.Running k) = record { ram = ram; reply = reply.Refused refusal.Status }
 
 -- Allow: to Running, at the pass's start
-abbrev pub allow : Machine → State → Step
-allow m state.Uninit = replied m (reply.Refused refusal.Uninit)
-allow m state.Stopped = replied (with_ram m (record { state = state.Running 0; result = m.ram.result; failed = false })) reply.Done
-allow m (state.Running k) = replied m (reply.Refused refusal.Status)
+abbrev pub allow : Ram → State → Called
+allow ram state.Uninit = record { ram = ram; reply = reply.Refused refusal.Uninit }
+allow ram state.Stopped = record { ram = record { state = state.Running 0; result = ram.result; failed = false }; reply = reply.Done }
+allow ram (state.Running k) = record { ram = ram; reply = reply.Refused refusal.Status }
 
 -- the block's result
-abbrev pub block_result : Machine → State → Step
-block_result m state.Uninit = replied m (reply.Refused refusal.Uninit)
-block_result m state.Stopped = replied m (reply.Value (value.Result m.ram.result))
-block_result m (state.Running k) = replied m (reply.Value (value.Result m.ram.result))
+abbrev pub block_result : Ram → State → Called
+block_result ram state.Uninit = record { ram = ram; reply = reply.Refused refusal.Uninit }
+block_result ram state.Stopped = record { ram = ram; reply = reply.Value (value.Result ram.result) }
+block_result ram (state.Running k) = record { ram = ram; reply = reply.Value (value.Result ram.result) }
+
+-- the services that are there
+abbrev pub by_call : Ram → RamCall → Option Called
+by_call ram call.Init = Some (init ram ram.state)
+by_call ram call.Allow = Some (allow ram ram.state)
+by_call ram (call.GetTestResultPerBlock block) = if block == 0 then Some (block_result ram ram.state) else None
+by_call ram call = None
+
+abbrev pub called : Machine → Option Called → Option Step
+called m None = None
+called m (Some x) = Some (replied (record { board = m.board; ram = x.ram }) x.reply)
 
 -- an event begins on the board, with no request, and ends
 abbrev pub begun : Machine → Machine
@@ -102,13 +115,6 @@ tick c m (state.Running k) = record {
   touches = group_touches c (begun m) k (group_at c k);
 }
 
--- the services that are there
-abbrev pub by_call : Machine → RamCall → Option Step
-by_call m call.Init = Some (init m m.ram.state)
-by_call m call.Allow = Some (allow m m.ram.state)
-by_call m (call.GetTestResultPerBlock block) = if block == 0 then Some (block_result m m.ram.state) else None
-by_call m call = None
-
 -- requests are not served yet
 abbrev pub ticked : Config → Machine → List Request → Option Step
 ticked c m [] = Some (tick c m m.ram.state)
@@ -117,7 +123,7 @@ ticked c m (request ∷ more) = None
 -- what an event does; none, where no module answers it yet
 abbrev pub by_event : Config → Machine → Event → List Request → Option Step
 by_event c m event.Nothing requests = Some (record { after = m; entries = []; touches = [] })
-by_event c m (event.Ram call) requests = by_call m call
+by_event c m (event.Ram call) requests = called m (by_call m.ram call)
 by_event c m (event.Fls call) requests = None
 by_event c m event.TickRam requests = ticked c m requests
 by_event c m event.TickFls requests = None
