@@ -3,3 +3,4 @@ pub mod Lines
 pub mod Texts
 pub mod Turns
 pub mod Runs
+pub mod Heads

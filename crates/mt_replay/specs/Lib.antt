@@ -4,3 +4,4 @@ pub mod Machine
 pub mod Outcome
 pub mod Run
 pub mod Events
+pub mod Head

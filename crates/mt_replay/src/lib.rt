@@ -3,6 +3,7 @@
 
 mod config;
 mod event;
+mod head;
 mod input;
 mod ram;
 mod run;
@@ -11,6 +12,7 @@ mod text;
 
 pub use config::Config;
 pub use event::Answer;
+pub use head::Head;
 pub use input::{Input, Line, LineText};
 pub use ram::{Ram, State};
 pub use run::{Fault, Turn};

@@ -216,7 +216,11 @@ fn run_line<S: Source, K: Sink, B: Bench>(
 }
 
 // What comes behind the last line that may be: the end, or a line too many.
-fn run_past<S: Source, K: Sink>(input: &mut Input, source: &mut S, sink: &mut K) -> Result<Turn, Fault>
+fn run_past<S: Source, K: Sink>(
+    input: &mut Input,
+    source: &mut S,
+    sink: &mut K,
+) -> Result<Turn, Fault>
     ensures gives { (c : _) (m : Machine) (told : _) → TurnGives result c m m 1000001
         (record { left = prepend_known input.old (S.left source.old); left' = prepend_known input.new (S.left source.new); held = K.held sink.old; held' = K.held sink.new; tape = told; tape' = told }) }
     ensures ended { result ≢ Ok Turn.More }

@@ -1,0 +1,4 @@
+pub mod Accepted
+pub mod Slices
+pub mod Groups
+pub mod Laws

@@ -1,0 +1,20 @@
+//! Laws of slices and groups.
+
+ghost use Rattle.mt_blocks.specs.Laws.{SlicesAreTheBlock, OnlyTheLastIsShorter, GroupsFit, GroupsAreLongest, GroupsAreThePass};
+
+/// The slices of a block are the block, in order, each word once, and no slice but the last is shorter than the others.
+pub fn slices_are_the_block()
+    ensures words { SlicesAreTheBlock }
+    ensures whole { OnlyTheLastIsShorter }
+{}
+
+/// The words of a group are at most as many as one tick tests, and with the next slice they would be more.
+pub fn groups_are_longest()
+    ensures fit { GroupsFit }
+    ensures longest { GroupsAreLongest }
+{}
+
+/// The groups of a pass, one after another, are the pass.
+pub fn groups_are_the_pass()
+    ensures { GroupsAreThePass }
+{}

@@ -1,0 +1,18 @@
+//! The memory words that are tested: blocks of them, the parameter sets of the tests, and how a pass over the blocks is
+//! cut into slices, groups and ticks.
+#![tactic(auto)]
+
+mod config;
+mod laws;
+mod list;
+mod pass;
+mod span;
+
+pub use config::{Block, FlashBlock, FlsConfig, ParamSet, RamConfig};
+pub use laws::{groups_are_longest, groups_are_the_pass, slices_are_the_block};
+pub use list::List;
+pub use pass::{Position, following, group_len, is_last, slice_at, ticks_of};
+pub use span::{HasSpan, Span};
+
+#[cfg(test)]
+mod tests;

@@ -1,0 +1,123 @@
+//! Slices, passes, groups and ticks.
+
+ghost use Rattle.std.specs.Prelude.{◌≡◌, ◌≤◌, ◌+◌, length, map};
+ghost use Rattle.mt_blocks.specs.Slices.{AreSpans, IsValid, span_at, slice_of, ends_block, next_of, start_of, from_place, pass};
+ghost use Rattle.mt_blocks.specs.Groups.{group_len, ticks};
+
+use crate::span::{HasSpan, span_in};
+use mt_seq::Slice;
+
+/// A slice of a pass: the number of its block, and the offset of its first word in the block.
+#[derive(Clone, Copy, Debug, PartialEq, Eq)]
+pub struct Position {
+    pub block: u32,
+    pub offset: u32,
+}
+
+/// The slice at a position: `atomic` words, or what is left of its block.
+pub fn slice_at<T: HasSpan>(blocks: &[T], atomic: u32, at: Position) -> Slice
+    requires blocks { AreSpans atomic (map T.span_of blocks.now) }
+    requires valid { IsValid atomic (map T.span_of blocks.now) at }
+    ensures slice { result ≡ slice_of atomic (span_at (map T.span_of blocks.now) at.block) at.offset }
+    ensures some { 1 ≤ result.n }
+    ensures small { result.n ≤ 64 }
+    ensures inside { result.first + result.n ≤ (span_at (map T.span_of blocks.now) at.block).last + 1 }
+{
+    let span = span_in(blocks, at.block);
+    let left = span.last - span.first + 1 - at.offset;
+    Slice {
+        first: span.first + at.offset,
+        n: left.min(atomic) as u8,
+    }
+}
+
+/// Whether the slice at a position is the last of its block.
+pub fn is_last<T: HasSpan>(blocks: &[T], atomic: u32, at: Position) -> bool
+    requires blocks { AreSpans atomic (map T.span_of blocks.now) }
+    requires valid { IsValid atomic (map T.span_of blocks.now) at }
+    ensures { result ≡ ends_block atomic (span_at (map T.span_of blocks.now) at.block) at.offset }
+{
+    let span = span_in(blocks, at.block);
+    span.last - span.first + 1 - at.offset <= atomic
+}
+
+/// The position of the next slice; none after the pass's last.
+pub fn following<T: HasSpan>(blocks: &[T], atomic: u32, at: Position) -> Option<Position>
+    requires blocks { AreSpans atomic (map T.span_of blocks.now) }
+    requires valid { IsValid atomic (map T.span_of blocks.now) at }
+    ensures { result ≡ next_of atomic (map T.span_of blocks.now) at }
+{
+    let span = span_in(blocks, at.block);
+    let left = span.last - span.first + 1 - at.offset;
+    if atomic < left {
+        Some(Position {
+            block: at.block,
+            offset: at.offset + atomic,
+        })
+    } else if at.block + 1 < blocks.len() as u32 {
+        Some(Position {
+            block: at.block + 1,
+            offset: 0,
+        })
+    } else {
+        None
+    }
+}
+
+/// How many slices the group has that begins at a position.
+pub fn group_len<T: HasSpan>(blocks: &[T], atomic: u32, cells: u32, at: Position) -> u32
+    requires blocks { AreSpans atomic (map T.span_of blocks.now) }
+    requires valid { IsValid atomic (map T.span_of blocks.now) at }
+    requires cells { atomic ≤ cells }
+    ensures len { result ≡ group_len cells (from_place atomic (map T.span_of blocks.now) at) }
+    ensures few { result ≤ cells }
+{
+    let mut left = cells;
+    let mut len = 0;
+    let mut next = Some(at);
+    while let Some(place) = next {
+        let slice = slice_at(blocks, atomic, place);
+        if u32::from(slice.n) > left {
+            break;
+        }
+        left -= u32::from(slice.n);
+        len += 1;
+        next = following(blocks, atomic, place);
+    }
+    len
+}
+
+// The position of a pass's first slice; none where there is no block.
+fn first_place<T: HasSpan>(blocks: &[T]) -> Option<Position>
+    ensures { result ≡ start_of (map T.span_of blocks.now) }
+{
+    if blocks.is_empty() {
+        return None;
+    }
+    Some(Position {
+        block: 0,
+        offset: 0,
+    })
+}
+
+/// How many ticks a whole pass takes: the number of its groups.
+pub fn ticks_of<T: HasSpan>(blocks: &[T], atomic: u32, cells: u32) -> u32
+    requires blocks { AreSpans atomic (map T.span_of blocks.now) }
+    requires cells { atomic ≤ cells }
+    ensures { result ≡ ticks cells (pass atomic (map T.span_of blocks.now)) }
+{
+    let mut ticks = 0;
+    let mut left = 0;
+    let mut next = first_place(blocks);
+    while let Some(place) = next {
+        let words = u32::from(slice_at(blocks, atomic, place).n);
+        if words <= left {
+            left -= words;
+        } else {
+            ticks += 1;
+            left = cells - words;
+        }
+        next = following(blocks, atomic, place);
+    }
+    ticks
+}
