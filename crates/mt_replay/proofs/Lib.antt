@@ -4,3 +4,4 @@ pub mod Texts
 pub mod Turns
 pub mod Runs
 pub mod Heads
+pub mod Groups

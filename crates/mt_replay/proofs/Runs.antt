@@ -15,7 +15,7 @@ use Rattle.mt_replay.specs.declared.run.Turn.TheVariants as turn
 use Rattle.mt_replay.specs.declared.status.Status.{Status}
 use Rattle.mt_replay.specs.declared.status.Status.TheVariants as status
 use Rattle.mt_replay.specs.Input.{Ending, Finished, Failed, Cut, cut, led, begun, HasNoFeed, BeginsTooLong, TakesLine, BreaksOff}
-use Rattle.mt_replay.specs.Machine.{Machine}
+use Rattle.mt_replay.specs.Ram.{Machine}
 use Rattle.mt_replay.specs.Outcome.{Run, preceded, done, refused, read_fault, read_fault_text, judged, last_judged, run_lines, run_script}
 use Rattle.mt_replay.specs.Run.{Change, Answered, Concludes, Refused, CutOff, Fronts, LineGives, EndGives, Crosses, Breaking, Goes, Ends, Breaks, Stops, TurnGives, ScriptGives}
 use Rattle.std.specs.Io.KnownBytes.{prepend_known}

@@ -14,7 +14,8 @@ use Rattle.mt_replay.specs.declared.config.Config.{Config}
 use Rattle.mt_replay.specs.declared.status.Status.{Status}
 use Rattle.mt_replay.specs.declared.status.Status.TheVariants as status
 use Rattle.mt_replay.specs.Input.{Ending, Finished, Failed, Cut, cut}
-use Rattle.mt_replay.specs.Machine.{Machine, Step, step, started}
+use Rattle.mt_replay.specs.Machine.{Step, step, started}
+use Rattle.mt_replay.specs.Ram.{Machine}
 
 -- how a script ends: its text, its test accesses, its status, and the board after it
 pub record Run : Type 0 where
