@@ -18,7 +18,8 @@ is_fresh() {
 build() {
     log=$(mktemp) || return 1
     began=$(mktemp) || return 1
-    if answer=$(cd "$crate" && rt run mt_cli 2>"$log" </dev/null) || [ "$answer" = usage ] && [ -x "$program" ]; then
+    answer=$(cd "$crate" && rt run mt_cli 2>"$log" </dev/null)
+    if [ "$answer" = usage ] && [ -x "$program" ]; then
         mv -f "$began" "$stamp" && rm -f "$log"
         return
     fi
