@@ -5,3 +5,4 @@ pub mod Turns
 pub mod Runs
 pub mod Heads
 pub mod Groups
+pub mod Jobs

@@ -8,3 +8,4 @@ pub mod Outcome
 pub mod Run
 pub mod Events
 pub mod Head
+pub mod Replay
