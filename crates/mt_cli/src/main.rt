@@ -4,9 +4,8 @@
 use mt_board::SimBoard;
 use mt_port::{StdIn, StdOut};
 use mt_replay::{Status, exit_number, replay};
-use std::env;
-use std::io;
 use std::process::ExitCode;
+use std::{env, io};
 
 // The words after the program's name.
 fn words_of(rt: &HostRuntime) -> io::Result<Vec<String>> {

@@ -1,5 +1,5 @@
 -- The group that begins at a place, one slice on and at its end.
-use Rattle.std.proofs.Common.{ℕ, ◌+◌, ◌-◌, ◌*◌, ◌^◌, ◌<◌, ◌≤◌, ◌≡◌, Bool, true, false, cond, leb, List, [], ◌∷◌, ◌++◌, length, drop, map, get_or, refl, sym, ap, ◌∙◌, arith, append_assoc, Option, Some, None}
+use Rattle.std.proofs.Common.{ℕ, ◌+◌, ◌-◌, ◌<◌, ◌≤◌, ◌≡◌, Bool, true, false, cond, List, [], ◌∷◌, ◌++◌, length, drop, sym, ap, ◌∙◌, arith, append_assoc, Option}
 use Rattle.std.proofs.Common.{◌==◌, inl, inr, ◌⊎◌, ◌≢◌, subst}
 use Rattle.std.proofs.lemmas.Bool.{le-leb, lt-leb, false≢true}
 use Rattle.std.proofs.lemmas.Bool.Decides.{eqb_tells}
@@ -8,11 +8,9 @@ use Rattle.std.proofs.lemmas.List.FromFn.{length-map-range_with_len, get_or-map-
 use Rattle.mt_port.specs.Board.{Board, Logs}
 use Rattle.mt_port.specs.declared.board.Touch.{Touch}
 use Rattle.mt_seq.specs.declared.sequence.Slice.{Slice}
-use Rattle.mt_seq.specs.declared.sequence.Verdict.{Verdict}
 use Rattle.mt_seq.specs.Sequence.{sequence_touches, sequence_verdict, sequence_hold}
 use Rattle.mt_replay.specs.declared.config.Config.{Config}
 use Rattle.mt_replay.specs.declared.ram.Ram.{Ram}
-use Rattle.mt_replay.specs.declared.ram.State.TheVariants as state
 use Rattle.mt_replay.proofs.Texts.{Logs-append}
 use Rattle.mt_replay.specs.Ram.{Machine, after_slice, sequenced, is_pass, job_of, ram_after, IsPlace, run_group, group_touches, group_hold, group, slices, slice_at, slice_count}
 

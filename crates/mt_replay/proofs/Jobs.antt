@@ -1,6 +1,6 @@
 -- From the configuration and the script to the job.
-use Rattle.std.proofs.Common.{ℕ, ◌+◌, ◌<◌, ◌≤◌, ◌≡◌, Bool, true, false, cond, List, [], ◌∷◌, ◌++◌, length, Option, Some, None, Result, Ok, Err, ◌⊎◌, inl, inr, refl, sym, ap, ◌∙◌, subst, arith, append_assoc, append-nil}
-use Rattle.std.proofs.lemmas.Bool.{le-leb, lt-leb, lt-ltb}
+use Rattle.std.proofs.Common.{ℕ, ◌≡◌, List, [], ◌∷◌, ◌++◌, length, Option, Some, None, ◌⊎◌, inl, inr, refl, sym, ap, ◌∙◌, subst, arith, append_assoc, append-nil}
+use Rattle.std.proofs.lemmas.Bool.{lt-leb, lt-ltb}
 use Rattle.std.specs.Io.KnownBytes.{prepend_known, Appends}
 use Rattle.mt_port.specs.Streams.{WhereTold, AppendsFront}
 use Rattle.mt_port.specs.Board.{Board, Logs}
@@ -10,19 +10,16 @@ use Rattle.mt_fault.specs.declared.fault.Fault.{Fault as MemoryFault}
 use Rattle.mt_replay.specs.declared.config.Config.{Config}
 use Rattle.mt_replay.specs.declared.job.Found.{Found}
 use Rattle.mt_replay.specs.declared.job.Found.TheVariants as found
-use Rattle.mt_replay.specs.declared.job.Script.{Script}
 use Rattle.mt_replay.specs.declared.job.Script.TheVariants as script
-use Rattle.mt_replay.specs.declared.run.Fault.{Fault}
-use Rattle.mt_replay.specs.declared.run.Fault.TheVariants as fault
 use Rattle.mt_replay.specs.declared.status.Status.{Status}
 use Rattle.mt_replay.specs.declared.status.Status.TheVariants as status
 use Rattle.mt_replay.specs.Input.{Ending, Finished, Failed, Cut, cut, Job, Parted, Whole, job_of}
 use Rattle.mt_replay.specs.Head.{Parts, EndsWith, Exceeds, HeadBreaks, IsTooLong}
 use Rattle.mt_replay.specs.Ram.{Machine}
 use Rattle.mt_replay.specs.Machine.{started}
-use Rattle.mt_replay.specs.Outcome.{Outcome, Run, After, ran, bad_config, by_job, outcome, run_script, done, done_text, read_fault_text}
-use Rattle.mt_replay.specs.Run.{Change, Ends, Breaks, Stops, IsPlain, ScriptGives}
-use Rattle.mt_replay.specs.Replay.{outcomes, by_found, HasScript, FoundGives, Begins, BeginsEmpty, HeadFails, BoardIs, Concluded, Broken, TakenGive, IsDefined, Cutting, JobGives, EmptyGives, StatusCaused, Told, Wrote, Failing}
+use Rattle.mt_replay.specs.Outcome.{Outcome, Run, ran, bad_config, by_job, outcome, run_script, done_text, read_fault_text}
+use Rattle.mt_replay.specs.Run.{Ends, Breaks, Stops}
+use Rattle.mt_replay.specs.Replay.{outcomes, by_found, HasScript, FoundGives, Begins, BeginsEmpty, HeadFails, Concluded, TakenGive, JobGives, EmptyGives, StatusCaused, Told}
 use Rattle.mt_replay.proofs.Runs.{change}
 use Rattle.mt_replay.proofs.Texts.{AppendsFront-after, WhereTold-map}
 
@@ -159,14 +156,14 @@ pub broken_job : (result : Status) (c : Config) (defect : Option MemoryFault) (m
     → JobGives result (outcomes defect) before board (change a left h h'' was tape')
 broken_job result c defect m before board held a b left h h' h'' was tape tape' k k' told start begins none e t =
     elim (told_after result status.ReadFault e.text read_fault_text h h' h'' k k' e.written t) [
-    | inl w ↦ subst (λ (s : Status). JobGives s (outcomes defect) before board (change a left h h'' was tape')) (sym w.0) (record {
+      | inl w ↦ subst (λ (s : Status). JobGives s (outcomes defect) before board (change a left h h'' was tape')) (sym w.0) (record {
         text = e.text ++ read_fault_text;
         after = Some (record { board = board; touches = e.touches });
         written = w.1;
         outcome = taken;
         board = (refl, subst (λ (u : Option (List Touch)). Logs u tape' e.touches) told e.taped);
       })
-    | inr w ↦ subst (λ (s : Status). JobGives s (outcomes defect) before board (change a left h h'' was tape')) (sym w.0) (record {
+      | inr w ↦ subst (λ (s : Status). JobGives s (outcomes defect) before board (change a left h h'' was tape')) (sym w.0) (record {
         text = e.text ++ read_fault_text;
         written = w.1;
         defined = WhereTold-map a left taken (λ x z r. inr (r.front, r.taken, ap (λ (o : Outcome). o.text) r.is));
@@ -206,10 +203,10 @@ pub told_broken : (result : Status) (defect : Option MemoryFault) (before : Boar
     → JobGives result (outcomes defect) before before (change a left h h' tape tape)
 told_broken result defect before held a left h h' tape k k' t none fails =
     elim t [
-    | inl w ↦ subst (λ (s : Status). JobGives s (outcomes defect) before before (change a left h h' tape tape)) (sym w.0)
-        (record { text = read_fault_text; after = None; written = w.1.written; outcome = taken; board = (refl, refl) })
-    | inr w ↦ subst (λ (s : Status). JobGives s (outcomes defect) before before (change a left h h' tape tape)) (sym w.0)
-        (record { text = read_fault_text; written = w.1.written; defined = WhereTold-map a left taken (λ x z r. inr (r.front, r.taken, ap (λ (o : Outcome). o.text) r.is)) })
+      | inl w ↦ subst (λ (s : Status). JobGives s (outcomes defect) before before (change a left h h' tape tape)) (sym w.0)
+          (record { text = read_fault_text; after = None; written = w.1.written; outcome = taken; board = (refl, refl) })
+      | inr w ↦ subst (λ (s : Status). JobGives s (outcomes defect) before before (change a left h h' tape tape)) (sym w.0)
+          (record { text = read_fault_text; written = w.1.written; defined = WhereTold-map a left taken (λ x z r. inr (r.front, r.taken, ap (λ (o : Outcome). o.text) r.is)) })
     ]
   where
     taken : WhereTold a left (TakenGive (outcomes defect) (record { text = read_fault_text; status = status.ReadFault; after = None }))

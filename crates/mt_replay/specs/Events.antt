@@ -13,7 +13,7 @@ use Rattle.mt_replay.specs.declared.event.Answer.{Answer}
 use Rattle.mt_replay.specs.declared.event.Answer.TheVariants as answer
 use Rattle.mt_text.specs.declared.line.RamCall.{RamCall}
 use Rattle.mt_replay.specs.declared.ram.Ram.{Ram}
-use Rattle.mt_replay.specs.Machine.{Step, step, by_call, tick}
+use Rattle.mt_replay.specs.Machine.{step, by_call, tick}
 use Rattle.mt_replay.specs.Ram.{Machine}
 
 -- The line is answered with these entries, and these accesses are made.

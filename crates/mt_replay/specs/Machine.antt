@@ -1,6 +1,5 @@
 -- The machine that a script drives: the board, and the RAM test over it. Each line is one event.
 use Rattle.std.specs.Prelude.{ℕ, ◌≡◌, ◌==◌, false, List, [], ◌∷◌, Option, Some, None, is_some, if◌then◌else◌, slice_set}
-use Rattle.mt_port.specs.declared.board.Shape.{Shape}
 use Rattle.mt_port.specs.declared.board.Touch.{Touch}
 use Rattle.mt_port.specs.declared.request.Request.{Request}
 use Rattle.mt_port.specs.declared.request.AppOp.{AppOp}

@@ -14,7 +14,7 @@ use Rattle.mt_replay.specs.declared.config.Config.{Config}
 use Rattle.mt_replay.specs.declared.status.Status.{Status}
 use Rattle.mt_replay.specs.declared.status.Status.TheVariants as status
 use Rattle.mt_replay.specs.Configuration.{config_of}
-use Rattle.mt_replay.specs.Input.{Ending, Finished, Failed, Cut, cut, Job, Parted, Whole, job_of}
+use Rattle.mt_replay.specs.Input.{Ending, Finished, Failed, Cut, Job, Parted, Whole, job_of}
 use Rattle.mt_replay.specs.Machine.{Step, step, started}
 use Rattle.mt_replay.specs.Ram.{Machine}
 

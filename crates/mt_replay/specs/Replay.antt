@@ -1,5 +1,5 @@
 -- What the top call does.
-use Rattle.std.specs.Prelude.{ℕ, ◌+◌, ◌≡◌, ◌⊎◌, Bool, true, false, List, [], ◌∷◌, ◌++◌, codes, Option, Some, None, String, string_bytes}
+use Rattle.std.specs.Prelude.{ℕ, ◌≡◌, ◌⊎◌, Bool, true, false, List, [], ◌∷◌, ◌++◌, codes, Option, Some, None, String, string_bytes}
 use Rattle.std.specs.declared.alloc.Global.{Global}
 use Rattle.std.specs.Str.{bytes_eq}
 use Rattle.std.specs.Io.KnownBytes.{Appends}
@@ -19,7 +19,7 @@ use Rattle.mt_replay.specs.Accepted.{IsAccepted}
 use Rattle.mt_replay.specs.Input.{Ending, Finished, Failed, Cut, cut}
 use Rattle.mt_replay.specs.Run.{Change}
 use Rattle.mt_replay.specs.Machine.{started}
-use Rattle.mt_replay.specs.Outcome.{After, Outcome, ran, bad_config, done, done_text, run_script, by_job, outcome, read_fault_text}
+use Rattle.mt_replay.specs.Outcome.{After, Outcome, ran, bad_config, done, done_text, run_script, outcome, read_fault_text}
 
 -- the words that ask for a replay
 abbrev pub is_run : List (String Global) → Bool

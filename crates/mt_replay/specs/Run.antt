@@ -1,5 +1,5 @@
 -- What the calls that read, run and write lines do.
-use Rattle.std.specs.Prelude.{ℕ, ◌+◌, ◌≡◌, ◌≢◌, List, [], ◌++◌, Option, Some, Result, Ok, Err}
+use Rattle.std.specs.Prelude.{ℕ, ◌+◌, ◌≡◌, ◌≢◌, List, [], ◌++◌, Option, Result, Ok, Err}
 use Rattle.std.specs.Io.KnownBytes.{Appends}
 use Rattle.mt_port.specs.Causes.{Rose}
 use Rattle.mt_port.specs.Streams.{AppendsFront, WhereTold}

@@ -133,7 +133,11 @@ fn algorithm_named(bytes: &[u8]) -> Option<(AlgorithmName, &[u8])>
         None,
     );
     let other = or_algorithm(skip(bytes, b"\"galpat\""), AlgorithmName::Galpat, other);
-    let other = or_algorithm(skip(bytes, b"\"walk-path\""), AlgorithmName::WalkPath, other);
+    let other = or_algorithm(
+        skip(bytes, b"\"walk-path\""),
+        AlgorithmName::WalkPath,
+        other,
+    );
     let other = or_algorithm(skip(bytes, b"\"march\""), AlgorithmName::March, other);
     or_algorithm(
         skip(bytes, b"\"checkerboard\""),

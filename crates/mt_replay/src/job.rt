@@ -63,11 +63,7 @@ fn refusal_of(bytes: &[u8]) -> u8
 }
 
 // Reads the configuration.
-fn find<S: Source>(
-    input: &mut Input,
-    source: &mut S,
-    kept: &mut Vec<u8>,
-) -> Result<Found, Failed>
+fn find<S: Source>(input: &mut Input, source: &mut S, kept: &mut Vec<u8>) -> Result<Found, Failed>
     requires empty { kept.old.items ≡ [] }
     requires room { HEAD_ROOM ≤ vec_capacity kept.old }
     ensures ok { IfOk result (λ found. WhereTold (prepend_known input.old (S.left source.old)) (prepend_known input.new (S.left source.new)) (FoundGives found)) }

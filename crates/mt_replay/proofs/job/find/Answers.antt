@@ -1,6 +1,5 @@
-use Rattle.std.proofs.Common.{◌≡◌, ◌∙◌, ap, sym, List, ℕ}
-use Rattle.mt_fault.specs.declared.fault.Fault.{Fault as MemoryFault}
-use Rattle.mt_replay.specs.Input.{Ending, Finished, Cut, Parted, Whole}
+use Rattle.std.proofs.Common.{◌∙◌, ap, sym, List, ℕ}
+use Rattle.mt_replay.specs.Input.{Finished, Parted, Whole}
 use Rattle.mt_replay.specs.Outcome.{by_job}
 use Rattle.mt_replay.proofs.Texts.{WhereTold-map}
 use Rattle.mt_replay.proofs.Jobs.{found_follows, found_empty, found_whole, found_long, head_fails}

@@ -1,6 +1,4 @@
-use Rattle.std.proofs.Common.{ℕ, List, Option, refl}
-use Rattle.mt_port.specs.Board.{Board}
-use Rattle.mt_replay.specs.Ram.{Machine}
+use Rattle.std.proofs.Common.{refl}
 use Rattle.mt_replay.proofs.Jobs.{ended_job, broken_job, stopped_job}
 use Rattle.mt_replay.proofs.job.replay_lines.Goals as goal
 

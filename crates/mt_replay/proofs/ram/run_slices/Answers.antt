@@ -1,12 +1,11 @@
-use Rattle.std.proofs.Common.{◌≡◌, ◌≤◌, ◌<◌, ◌+◌, ◌-◌, ◌*◌, ◌++◌, ◌∷◌, ℕ, Bool, List, [], drop, arith, ap, sym, ◌∙◌}
-use Rattle.mt_port.specs.Board.{Board, Logs}
-use Rattle.mt_port.specs.declared.board.Touch.{Touch}
+use Rattle.std.proofs.Common.{◌≡◌, ◌≤◌, ◌<◌, ◌+◌, ◌-◌, ◌++◌, [], drop, arith, ap, sym, ◌∙◌}
+use Rattle.mt_port.specs.Board.{Board}
 use Rattle.mt_seq.specs.declared.sequence.Job.{Job}
 use Rattle.mt_seq.specs.declared.sequence.Slice.{Slice}
 use Rattle.mt_seq.specs.Sequence.{sequence_words, sequence_verdict, sequence_hold, sequence_touches}
 use Rattle.mt_seq.proofs.Lengths.{holds_are_short}
-use Rattle.mt_replay.specs.Ram.{Machine, is_pass, job_of, sequenced, slice_count, run_group, group, slices, group_touches, group_hold}
-use Rattle.mt_replay.proofs.Groups.{same_machine, run_group-more, group_touches-more, group_hold-more, place_after, group_full, group_end, SoFar, so_far-more, so_far-end}
+use Rattle.mt_replay.specs.Ram.{Machine, is_pass, job_of, slice_count, run_group, group, slices, group_touches, group_hold}
+use Rattle.mt_replay.proofs.Groups.{same_machine, run_group-more, group_touches-more, group_hold-more, place_after, group_full, group_end, so_far-more, so_far-end}
 use Rattle.mt_replay.proofs.ram.run_slices.Given.{Over}
 use Rattle.mt_replay.proofs.ram.run_slices.Goals as goal
 use Rattle.mt_replay.proofs.ram.run_slices.Goals.{else-loop-place-test, then-loop-place-test+then-from-left}
@@ -59,10 +58,10 @@ loop-place-preserved g c =
 -- no slice is left that fits
 none : (g : Over) (c : goal.After-made g) → group c.loop-place.left (drop c.loop-place.place (slices c.args.config.now)) ≡ []
 none g c = elim c.loop-place-test.branch [
-    else-loop-place-test w ↦ group_end c.args.config.now c.loop-place.left c.loop-place.place (omega (arith, w.loop-place-test.false, c.count_slices-total.ensures.count))
+  | else-loop-place-test w ↦ group_end c.args.config.now c.loop-place.left c.loop-place.place (omega (arith, w.loop-place-test.false, c.count_slices-total.ensures.count))
   | then-loop-place-test+then-from-left w ↦ group_full c.args.config.now c.loop-place.left c.loop-place.place (omega (arith, w.loop-place-test.true, c.count_slices-total.ensures.count))
       (omega (arith, ap (λ (s : Slice). s.n) w.slice_of-slice.ensures.slice, w.from.ensures, w.if-from-left.true))
-  ]
+]
 
 pub returns-clause-machine : goal.returns-clause-machine
 returns-clause-machine g c =

@@ -1,5 +1,5 @@
-use Rattle.std.proofs.Common.{◌≡◌, ◌≤◌, ◌<◌, ◌+◌, ◌*◌, ◌-◌, drop, false}
-use Rattle.mt_replay.specs.Ram.{Machine, IsPlace, run_group, group_touches, group_hold, group, group_at, slices, slice_count}
+use Rattle.std.proofs.Common.{◌≡◌, ◌≤◌, ◌+◌, ◌*◌, ◌-◌, drop, false}
+use Rattle.mt_replay.specs.Ram.{IsPlace, run_group, group_touches, group_hold, group, group_at, slices}
 use Rattle.mt_replay.proofs.Groups.{SoFar}
 use Rattle.mt_replay.proofs.ram.run_slices.Given as goal
 

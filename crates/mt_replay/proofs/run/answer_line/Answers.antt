@@ -1,4 +1,4 @@
-use Rattle.std.proofs.Common.{◌≡◌, ◌∷◌, [], refl, sym, ap, ◌∙◌, subst, Option}
+use Rattle.std.proofs.Common.{◌∷◌, [], sym, ap, ◌∙◌, subst, Option}
 use Rattle.mt_port.specs.Streams.{AppendsFront}
 use Rattle.mt_port.proofs.StreamLemmas.{Appends-nil}
 use Rattle.mt_window.specs.declared.log.Entry.TheVariants.{Own}

@@ -1,5 +1,4 @@
-use Rattle.std.proofs.Common.{◌≡◌, refl, Ok, Err}
-use Rattle.mt_replay.specs.declared.run.Turn.TheVariants.{More}
+use Rattle.std.proofs.Common.{refl}
 use Rattle.mt_replay.specs.Ram.{Machine}
 use Rattle.mt_replay.specs.Outcome.{done}
 use Rattle.mt_replay.proofs.Turns.{then_end, cut_off_end}
