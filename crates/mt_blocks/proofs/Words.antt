@@ -1,14 +1,14 @@
 -- The words of slices.
-use Rattle.std.proofs.Common.{ℕ, suc, zero, ◌+◌, ◌-◌, ◌*◌, ◌/◌, ◌<◌, ◌≤◌, ◌≡◌, Bool, true, false, cond, leb, List, [], ◌∷◌, ◌++◌, take, map, length, get_or, min, refl, sym, ap, ◌∙◌, subst, arith, inl, inr, append-nil}
-use Rattle.std.specs.Prelude.{All, ◌⊎◌}
+use Rattle.std.proofs.Common.{ℕ, suc, zero, ◌+◌, ◌-◌, ◌*◌, ◌<◌, ◌≤◌, ◌≡◌, Bool, true, false, cond, leb, List, [], ◌∷◌, ◌++◌, take, map, length, get_or, min, sym, ap, ◌∙◌, subst, arith, inl, inr, append-nil}
+use Rattle.std.specs.Prelude.{◌⊎◌}
 use Rattle.std.specs.List.{range_with_len}
-use Rattle.std.proofs.Math.Nat.{add-mul, le-mul_of_pos_right, le-div_iff_mul-le}
+use Rattle.std.proofs.Math.Nat.{add-mul}
 use Rattle.std.proofs.lemmas.Bool.Decides.{leb_tells}
 use Rattle.std.proofs.lemmas.List.FromFn.{length-map-range_with_len, get_or-map-range_with_len}
 use Rattle.mt_blocks.specs.declared.span.Span.{Span}
 use Rattle.mt_blocks.specs.Slices.{Piece, span_len, slice_count, piece, pieces}
 use Rattle.mt_blocks.specs.Groups.{group_len}
-use Rattle.mt_blocks.specs.Laws.{addresses, addresses_of, word_count, IsWhole, SlicesAreTheBlock, OnlyTheLastIsShorter, GroupsFit, GroupsAreLongest}
+use Rattle.mt_blocks.specs.Laws.{addresses_of, word_count, IsWhole, SlicesAreTheBlock, OnlyTheLastIsShorter, GroupsFit, GroupsAreLongest}
 use Rattle.mt_blocks.proofs.Passes.{count_all, count_inside}
 
 range_append : (a m n : ℕ) → range_with_len a (m + n) ≡ range_with_len a m ++ range_with_len (a + m) n
