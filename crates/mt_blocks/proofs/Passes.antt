@@ -92,7 +92,7 @@ after_last K spans p ok valid last =
     let few : slice_count K b ≤ k + 1 = count_below K (span_len b) k ok.some (omega (arith, valid.multiple, add-mul k 1 K)) in
     drop_all (k + 1) (pieces K i b) (omega (arith, long))
 
-from_first : (K : ℕ) (spans : List Span) (i : ℕ) → 1 ≤ K → from_place K spans (record { block = i; offset = 0 }) ≡ pieces_from K i (drop i spans)
+pub from_first : (K : ℕ) (spans : List Span) (i : ℕ) → 1 ≤ K → from_place K spans (record { block = i; offset = 0 }) ≡ pieces_from K i (drop i spans)
 unfolding from_place
 from_first K spans i some = ap (λ (n : ℕ). drop n (pieces_from K i (drop i spans))) (div-eq_of_lt {n = 0} {m = K} (omega arith))
 

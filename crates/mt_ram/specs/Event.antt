@@ -1,5 +1,5 @@
 -- One running event of RamTst.
-use Rattle.std.specs.Prelude.{ℕ, Bool, false, List, [], slice_index_or, slice_set, Option, Some, None}
+use Rattle.std.specs.Prelude.{ℕ, Bool, false, not, ◌&&◌, if◌then◌else◌, List, [], slice_index_or, slice_set, Option, Some, None}
 use Rattle.mt_seq.specs.declared.sequence.Job.{Job}
 use Rattle.mt_seq.specs.declared.sequence.Verdict.{Verdict}
 use Rattle.mt_seq.specs.Sequence.{sequence_words, sequence_verdict, sequence_hold, sequence_touches}
@@ -8,8 +8,8 @@ use Rattle.mt_window.specs.Slices.{Tests}
 use Rattle.mt_window.specs.Events.{Running as Events}
 use Rattle.mt_blocks.specs.declared.config.ParamSet.{ParamSet}
 use Rattle.mt_blocks.specs.declared.pass.Position.{Position}
-use Rattle.mt_blocks.specs.Slices.{Piece, next_of, start}
-use Rattle.mt_blocks.specs.Accepted.{block_at}
+use Rattle.mt_blocks.specs.Slices.{Piece, next_of, start, span_at, ends_block, from_place, block_from}
+use Rattle.mt_blocks.specs.Accepted.{block_at, spans_of}
 use Rattle.mt_ram.specs.declared.state.State.{State}
 use Rattle.mt_ram.specs.declared.state.State.TheVariants.{Running}
 use Rattle.mt_ram.specs.State.{RamTst, set_of, spans_in}
@@ -74,6 +74,21 @@ of_test = record {
   taken = with_result;
   failed = λ p v failed. failed_after v failed p.last;
 }
+
+-- the slices of a full or partial test from a position on: those of the pass, or of the block
+abbrev pub test_from : Bool → ParamSet → Position → List Piece
+test_from whole set p =
+    if whole then from_place set.atomic (spans_of set.blocks) p else block_from set.atomic (spans_of set.blocks) p
+
+-- the position after one of them, and the slices from there on
+abbrev pub next_in : Bool → ParamSet → Position → Option Position
+next_in whole set p =
+    if not whole && ends_block set.atomic (span_at (spans_of set.blocks) p.block) p.offset then None
+    else next_of set.atomic (spans_of set.blocks) p
+
+abbrev pub test_rest : Bool → ParamSet → Option Position → List Piece
+test_rest whole set None = []
+test_rest whole set (Some p) = test_from whole set p
 
 -- the slices that a cell has tested
 abbrev pub work_in : Cell → List Piece

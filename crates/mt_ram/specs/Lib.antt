@@ -1,5 +1,5 @@
 pub mod State
 pub mod Results
 pub mod Table
+pub mod Kept
 pub mod Event
-pub mod Laws

@@ -6,7 +6,7 @@ use Rattle.mt_blocks.specs.declared.span.Span.{Span}
 use Rattle.mt_blocks.specs.declared.pass.Position.{Position}
 use Rattle.mt_blocks.specs.declared.config.ParamSet.{ParamSet}
 use Rattle.mt_blocks.specs.declared.config.RamConfig.{RamConfig}
-use Rattle.mt_blocks.specs.Slices.{IsValid}
+use Rattle.mt_blocks.specs.Slices.{IsValid, start}
 use Rattle.mt_blocks.specs.Accepted.{IsAcceptedRam, set_at, spans_of}
 use Rattle.mt_ram.specs.declared.state.State.{State}
 use Rattle.mt_ram.specs.declared.state.State.TheVariants.{Uninit, Stopped, Running, Suspended, Full, Partial}
@@ -45,6 +45,32 @@ IsPlace set (Suspended p) = IsValid set.atomic (spans_of set.blocks) p
 IsPlace set Full = Unit {0}
 IsPlace set (Partial None) = Unit {0}
 IsPlace set (Partial (Some p)) = IsValid set.atomic (spans_of set.blocks) p
+
+-- the states of a running pass, and inside a full or partial test
+abbrev pub IsRunning : State → Type 0
+IsRunning Uninit = ⊥
+IsRunning Stopped = ⊥
+IsRunning (Running p) = Unit {0}
+IsRunning (Suspended p) = ⊥
+IsRunning Full = ⊥
+IsRunning (Partial back) = ⊥
+
+abbrev pub IsInside : State → Type 0
+IsInside Uninit = ⊥
+IsInside Stopped = ⊥
+IsInside (Running p) = ⊥
+IsInside (Suspended p) = ⊥
+IsInside Full = Unit {0}
+IsInside (Partial back) = Unit {0}
+
+-- the position of a running pass
+abbrev pub place_of : State → Position
+place_of Uninit = start
+place_of Stopped = start
+place_of (Running p) = p
+place_of (Suspended p) = p
+place_of Full = start
+place_of (Partial back) = start
 
 -- what holds of every state
 pub record IsRam (r : RamTst) : Type 0 where

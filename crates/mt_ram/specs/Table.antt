@@ -1,5 +1,5 @@
 -- The state table of RamTst.
-use Rattle.std.specs.Prelude.{ℕ, Bool, true, false, ◌&&◌, List, [], length, map, slice_index_or, Option, Some, None, if◌then◌else◌, nat_lt, nat_le}
+use Rattle.std.specs.Prelude.{ℕ, Bool, true, false, ◌&&◌, List, [], length, replicate, slice_index_or, Option, Some, None, if◌then◌else◌, nat_lt, nat_le}
 use Rattle.mt_port.specs.declared.request.HandlerCall.{HandlerCall}
 use Rattle.mt_port.specs.declared.request.HandlerCall.TheVariants as calls
 use Rattle.mt_plan.specs.declared.algorithm.Algorithm.{Algorithm}
@@ -17,7 +17,6 @@ use Rattle.mt_window.specs.declared.reply.AlgorithmName.TheVariants as names
 use Rattle.mt_window.specs.declared.reply.TestResult.{TestResult}
 use Rattle.mt_window.specs.declared.reply.TestResult.TheVariants.{NotTested}
 use Rattle.mt_window.specs.Serving.{Table}
-use Rattle.mt_blocks.specs.declared.config.Block.{Block}
 use Rattle.mt_blocks.specs.declared.pass.Position.{Position}
 use Rattle.mt_blocks.specs.Slices.{Piece, pass, pieces, from_place, span_at, start}
 use Rattle.mt_blocks.specs.Groups.{group}
@@ -53,25 +52,26 @@ pub data Cell : Type 0 where
   -- a test of these slices: the state inside, and the state to go back to
   Runs : (slices : List Piece) (inside back : State) → Cell
 
--- a set with its results reset
+-- the module with that set: its number of cells, and no result
 abbrev pub selected : RamTst → ℕ → RamTst
 selected r set =
     record r {
       selected = set;
       cells = (set_at r.setting.config.sets set).cells;
-      results = map (λ (b : Block). NotTested) (set_at r.setting.config.sets set).blocks;
+      results = replicate (length (set_at r.setting.config.sets set).blocks) NotTested;
     }
 
--- Stop and DeInit drop the position and what was kept for the unfinished test; an accepted Stop or Suspend sets the mark
 abbrev pub initialised : RamTst → RamTst
 initialised r = record (selected r 0) { state = Stopped }
 
+-- DeInit and Stop drop the position and what was kept for the unfinished test
 abbrev pub uninitialised : RamTst → RamTst
 uninitialised r = record r { state = Uninit; failed = false }
 
 abbrev pub allowed : RamTst → RamTst
 allowed r = record r { state = Running start }
 
+-- an accepted Stop or Suspend sets the mark
 abbrev pub stopped : RamTst → RamTst
 stopped r = record r { state = Stopped; failed = false; mark = true }
 

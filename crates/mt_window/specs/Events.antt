@@ -36,9 +36,13 @@ entered r o = scene o.board (r.inside o.callee) o.log
 abbrev pub ran : {C X V : Type 0} → Running C X V → Scene C → Scene C
 ran r o = slices r.tests (r.work o.callee) false (entered r o)
 
--- after the last boundary the module goes back, and the requests that are left are served
+-- after the last boundary the module goes back
+abbrev pub returned : {C X V : Type 0} → Running C X V → Scene C → Scene C → Scene C
+returned r o z = scene z.board (r.back o.callee z.callee) z.log
+
+-- and the requests that are left are served
 abbrev pub closed : {C X V : Type 0} → Running C X V → Scene C → Scene C → Scene C
-closed r o z = serve_left r.tests.table (scene z.board (r.back o.callee z.callee) z.log)
+closed r o z = serve_left r.tests.table (returned r o z)
 
 -- the event, from just after boundary 0
 abbrev pub event_from : {C X V : Type 0} → Running C X V → Scene C → Outcome C
@@ -48,9 +52,13 @@ event_from r o = record { after = closed r o (ran r o); reply = r.reply o.callee
 abbrev pub event : {C X V : Type 0} → Running C X V → Scene C → Outcome C
 event r s = event_from r (opened r s)
 
--- its test accesses, and the attempts at its slices
+-- its test accesses, from just after boundary 0
+abbrev pub touches_from : {C X V : Type 0} → Running C X V → Scene C → List Touch
+touches_from r o = touches r.tests (r.work o.callee) false (entered r o)
+
+-- all of them, and the attempts at its slices
 abbrev pub event_touches : {C X V : Type 0} → Running C X V → Scene C → List Touch
-event_touches r s = touches r.tests (r.work ((opened r s).callee)) false (entered r (opened r s))
+event_touches r s = touches_from r (opened r s)
 
 abbrev pub event_attempts : {C X V : Type 0} → Running C X V → Scene C → List Attempt
 event_attempts r s = attempts r.tests (r.work ((opened r s).callee)) false (entered r (opened r s))
