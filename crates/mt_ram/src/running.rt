@@ -2,13 +2,14 @@
 
 ghost use Rattle.std.specs.Prelude.{◌≡◌, ◌<◌, ◌≤◌, ◌+◌, ◌*◌, ◌^◌, true, false, [], length, nat_lt};
 ghost use Rattle.mt_port.specs.declared.request.Module.TheVariants.{RamTst as Itself};
-ghost use Rattle.mt_port.specs.Board.{Logs};
+ghost use Rattle.mt_port.specs.Board.{IsWithinLimits, Logs};
 ghost use Rattle.mt_window.specs.Serving.{scene, IsReady};
 ghost use Rattle.mt_window.specs.Slices.{tested, failed_after, slices, touches};
 ghost use Rattle.mt_window.specs.Events.{ran, returned, event, touches_from, event_touches};
 ghost use Rattle.mt_blocks.specs.Slices.{IsValid, piece_at, from_place};
 ghost use Rattle.mt_blocks.specs.Laws.{word_count};
 ghost use Rattle.mt_blocks.specs.Groups.{group_len};
+ghost use Rattle.mt_blocks.specs.Accepted.{IsAcceptedSet};
 ghost use Rattle.mt_ram.specs.State.{set_of, spans_in, IsPlace, IsRunning, IsInside, place_of};
 ghost use Rattle.mt_ram.specs.Table.{MainFunction, RunFullTest, RunPartialTest, cell, row, reply_in, testing};
 ghost use Rattle.mt_ram.specs.Event.{of_pass, of_test, test_from, ticking, full_test, partial_test};
@@ -184,6 +185,8 @@ impl Ram {
         requires ready { IsReady Itself (P.state port.old) log.old }
         requires shape { (P.state port.old).shape ≡ self.old.setting.shape }
         requires start { (P.state port.old).count ≡ 0 }
+        requires accepted { IsAcceptedSet self.old.setting.shape (set_of self.old) }
+        requires limits { IsWithinLimits self.old.setting.shape }
         requires inside { IsInside self.old.state }
         requires valid { IsValid (set_of self.old).atomic (spans_in self.old) from }
         requires few { word_count (test_from whole (set_of self.old) from) ≤ 65536 * 64 }
@@ -205,7 +208,9 @@ impl Ram {
     // Changes the state alone.
     fn set_state(&mut self, state: State)
         requires { IsPlace (set_of self.old) state }
-        ensures { self.new ≡ record self.old { state = state } }
+        ensures state { self.new ≡ record self.old { state = state } }
+        ensures accepted { IsAcceptedSet self.new.setting.shape (set_of self.new) }
+        ensures limits { IsWithinLimits self.new.setting.shape }
     {
         self.state = state;
     }
