@@ -6,21 +6,14 @@ use Rattle.mt_window.specs.declared.reply.Value.TheVariants.{Result}
 use Rattle.mt_window.specs.declared.reply.TestResult.TheVariants.{NotTested}
 use Rattle.mt_port.specs.declared.request.HandlerCall.{HandlerCall}
 use Rattle.mt_port.specs.declared.request.HandlerCall.TheVariants as calls
-use Rattle.mt_window.specs.Serving.{Table, Scene, scene, serve_due}
-use Rattle.mt_window.proofs.Serving.{IsKept, Stays, due_served-stays, due_served-moves}
+use Rattle.mt_window.specs.Serving.{Scene, serve_due}
+use Rattle.mt_window.proofs.Serving.{IsKept, Stays, due_served-stays, due_served-moves, left_served-moves}
 use Rattle.mt_blocks.specs.declared.pass.Position.{Position}
 use Rattle.mt_ram.specs.declared.state.State.{State}
 use Rattle.mt_ram.specs.declared.state.State.TheVariants.{Uninit, Stopped, Running, Suspended, Full, Partial}
 use Rattle.mt_ram.specs.State.{Setting, RamTst, IsRunning, IsInside}
+use Rattle.mt_ram.specs.Laws.{Moves, BoundariesMove, RequestsLeftMove}
 use Rattle.mt_ram.specs.Table.{Service, Allow, Stop, Suspend, Resume, GetTestResult, GetTestResultPerBlock, Cell, Refuses, Goes, Answers, Rests, Ticks, Runs, cell, next_in, telling, ram_table}
-
--- Setting, selected set, number of cells and results stay. Where no Stop and no Suspend was accepted, a running pass
--- goes on where it stood. Inside a full or partial test nothing changes.
-pub record Moves (a b : RamTst) : Type 0 where
-  pub still : b ≡ record a { state = b.state; failed = b.failed; mark = b.mark }
-  pub unmarked : b.mark ≡ false → a.mark ≡ false
-  pub running : b.mark ≡ false → IsRunning a.state → b.state ≡ a.state
-  pub inside : IsInside a.state → b ≡ a
 
 pub Moves-refl : (a : RamTst) → Moves a a
 Moves-refl a = record { still = refl; unmarked = λ h. h; running = λ h r. refl; inside = λ r. refl }
@@ -106,6 +99,12 @@ row-moves a calls.FlsGetTestResultFgnd = Moves-refl a
 
 pub ram_moves : IsKept ram_table Moves
 ram_moves = record { none = Moves-refl; both = Moves-trans; row = row-moves }
+
+pub boundaries_move : BoundariesMove
+boundaries_move s = due_served-moves ram_table Moves ram_moves s.board.left s
+
+pub requests_left_move : RequestsLeftMove
+requests_left_move s = left_served-moves ram_table Moves ram_moves s.board.left s
 
 -- what a boundary leaves
 pub record Boundary (s z : Scene RamTst) : Type 0 where

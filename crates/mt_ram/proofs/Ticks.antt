@@ -21,7 +21,7 @@ use Rattle.mt_ram.specs.declared.state.State.TheVariants.{Uninit, Stopped, Runni
 use Rattle.mt_ram.specs.State.{RamTst, Setting, IsRam, set_of, spans_in, IsRunning, place_of}
 use Rattle.mt_ram.specs.Table.{MainFunction, cell, row, ram_table}
 use Rattle.mt_ram.specs.Event.{job_of, or_start, next_place, passed, of_pass, ticking, work_in, inside_of, back_from}
-use Rattle.mt_ram.proofs.Moves.{Moves, Boundary, at_boundary}
+use Rattle.mt_ram.proofs.Moves.{at_boundary}
 use Rattle.mt_ram.proofs.Sets.{accepted_set, accepted_spans, hold_small, or_start-valid}
 
 -- inside a tick the module is as it was, and no way back is needed

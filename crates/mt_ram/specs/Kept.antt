@@ -1,86 +1,91 @@
--- The handlers' rows leave the setting.
-use Rattle.std.specs.Prelude.{ℕ, ◌≡◌, Bool, true, false, length, slice_index_or, refl, if◌then◌else◌, nat_lt}
+-- No service changes the setting.
+use Rattle.std.specs.Prelude.{ℕ, ◌≡◌, ◌&&◌, Bool, true, false, length, slice_index_or, refl, Option, Some, None, if◌then◌else◌, nat_lt, nat_le}
 use Rattle.mt_port.specs.declared.request.HandlerCall.{HandlerCall}
-use Rattle.mt_port.specs.declared.request.HandlerCall.TheVariants as calls
 use Rattle.mt_window.specs.declared.reply.Refusal.TheVariants as refusal
 use Rattle.mt_window.specs.declared.reply.Value.TheVariants as value
 use Rattle.mt_window.specs.declared.reply.TestResult.TheVariants.{NotTested}
+use Rattle.mt_blocks.specs.Slices.{pieces, span_at}
 use Rattle.mt_ram.specs.declared.state.State.{State}
 use Rattle.mt_ram.specs.declared.state.State.TheVariants.{Uninit, Stopped, Running, Suspended, Full, Partial}
-use Rattle.mt_ram.specs.State.{RamTst}
-use Rattle.mt_ram.specs.Table.{Service, Allow, Stop, Suspend, Resume, GetTestResult, GetTestResultPerBlock, Cell, Refuses, Answers, cell, next_in, telling, ram_table}
+use Rattle.mt_ram.specs.State.{RamTst, set_of, spans_in}
+use Rattle.mt_ram.specs.Table.{Service, Init, DeInit, Allow, Stop, Suspend, Resume, SelectAlgParams, ChangeNumberOfTestedCells, RunFullTest, RunPartialTest, MainFunction, GetTestResultPerBlock, GetTestResult, GetAlgParams, GetTestAlgorithm, GetNumberOfTestedCells, GetExecutionStatus, GetVersionInfo, Cell, Refuses, Goes, Answers, Runs, cell, next_in, after, handled, handler_next, selecting, selected, changing, testing, telling, ram_table}
 
--- a service leaves the setting in a state
-abbrev Leaves : Service → RamTst → State → Type 0
-Leaves service r s = (next_in (cell r service s) r).setting ≡ r.setting
+-- the module after a cell has the same setting
+abbrev Leaves : RamTst → Cell → Type 0
+Leaves r c = (next_in c r).setting ≡ r.setting
 
-allow_leaves : (r : RamTst) (s : State) → Leaves Allow r s
-allow_leaves r Uninit = refl
-allow_leaves r Stopped = refl
-allow_leaves r (Running p) = refl
-allow_leaves r (Suspended p) = refl
-allow_leaves r Full = refl
-allow_leaves r (Partial back) = refl
-
-stop_leaves : (r : RamTst) (s : State) → Leaves Stop r s
-stop_leaves r Uninit = refl
-stop_leaves r Stopped = refl
-stop_leaves r (Running p) = refl
-stop_leaves r (Suspended p) = refl
-stop_leaves r Full = refl
-stop_leaves r (Partial back) = refl
-
-suspend_leaves : (r : RamTst) (s : State) → Leaves Suspend r s
-suspend_leaves r Uninit = refl
-suspend_leaves r Stopped = refl
-suspend_leaves r (Running p) = refl
-suspend_leaves r (Suspended p) = refl
-suspend_leaves r Full = refl
-suspend_leaves r (Partial back) = refl
-
-resume_leaves : (r : RamTst) (s : State) → Leaves Resume r s
-resume_leaves r Uninit = refl
-resume_leaves r Stopped = refl
-resume_leaves r (Running p) = refl
-resume_leaves r (Suspended p) = refl
-resume_leaves r Full = refl
-resume_leaves r (Partial back) = refl
-
-result_leaves : (r : RamTst) (s : State) → Leaves GetTestResult r s
-result_leaves r Uninit = refl
-result_leaves r Stopped = refl
-result_leaves r (Running p) = refl
-result_leaves r (Suspended p) = refl
-result_leaves r Full = refl
-result_leaves r (Partial back) = refl
-
-telling_leaves : (r : RamTst) (block : ℕ) → (next_in (telling r block) r).setting ≡ r.setting
-telling_leaves r block = of (nat_lt block (length r.results))
+selecting_leaves : (r : RamTst) (set : ℕ) → Leaves r (selecting r set)
+selecting_leaves r set = of (nat_lt set (length r.setting.config.sets))
   where
-    of : (b : Bool) → (next_in (if b then Answers (value.Result (slice_index_or r.results block NotTested)) else Refuses refusal.Range) r).setting ≡ r.setting
+    of : (b : Bool) → Leaves r (if b then Goes (selected r set) else Refuses refusal.Range)
     of true = refl
     of false = refl
 
-block_leaves : (r : RamTst) (block : ℕ) (s : State) → Leaves (GetTestResultPerBlock block) r s
-block_leaves r block Uninit = refl
-block_leaves r block Stopped = telling_leaves r block
-block_leaves r block (Running p) = telling_leaves r block
-block_leaves r block (Suspended p) = telling_leaves r block
-block_leaves r block Full = telling_leaves r block
-block_leaves r block (Partial back) = telling_leaves r block
+changing_leaves : (r : RamTst) (cells : ℕ) → Leaves r (changing r cells)
+changing_leaves r cells = of (nat_le (set_of r).atomic cells && nat_le cells 65536)
+  where
+    of : (b : Bool) → Leaves r (if b then Goes (record r { cells = cells }) else Refuses refusal.Range)
+    of true = refl
+    of false = refl
+
+testing_leaves : (r : RamTst) (block : ℕ) (inside back : State) → Leaves r (testing r block inside back)
+testing_leaves r block inside back = of (nat_lt block (length (set_of r).blocks))
+  where
+    of : (b : Bool) → Leaves r (if b then Runs (pieces (set_of r).atomic block (span_at (spans_in r) block)) inside back else Refuses refusal.Range)
+    of true = refl
+    of false = refl
+
+telling_leaves : (r : RamTst) (block : ℕ) → Leaves r (telling r block)
+telling_leaves r block = of (nat_lt block (length r.results))
+  where
+    of : (b : Bool) → Leaves r (if b then Answers (value.Result (slice_index_or r.results block NotTested)) else Refuses refusal.Range)
+    of true = refl
+    of false = refl
+
+cell_leaves : (r : RamTst) (service : Service) (s : State) → Leaves r (cell r service s)
+cell_leaves r Init Uninit = refl
+cell_leaves r Init _ = refl
+cell_leaves r DeInit Uninit = refl
+cell_leaves r DeInit _ = refl
+cell_leaves r Allow Uninit = refl
+cell_leaves r Allow _ = refl
+cell_leaves r Stop Uninit = refl
+cell_leaves r Stop _ = refl
+cell_leaves r Suspend Uninit = refl
+cell_leaves r Suspend _ = refl
+cell_leaves r Resume Uninit = refl
+cell_leaves r Resume _ = refl
+cell_leaves r (SelectAlgParams set) Stopped = selecting_leaves r set
+cell_leaves r (SelectAlgParams set) _ = refl
+cell_leaves r (ChangeNumberOfTestedCells cells) Stopped = changing_leaves r cells
+cell_leaves r (ChangeNumberOfTestedCells cells) _ = refl
+cell_leaves r RunFullTest Uninit = refl
+cell_leaves r RunFullTest _ = refl
+cell_leaves r (RunPartialTest block) Stopped = testing_leaves r block (Partial None) Stopped
+cell_leaves r (RunPartialTest block) (Suspended p) = testing_leaves r block (Partial (Some p)) (Suspended p)
+cell_leaves r (RunPartialTest block) _ = refl
+cell_leaves r MainFunction Uninit = refl
+cell_leaves r MainFunction _ = refl
+cell_leaves r (GetTestResultPerBlock block) Uninit = refl
+cell_leaves r (GetTestResultPerBlock block) _ = telling_leaves r block
+cell_leaves r GetTestResult Uninit = refl
+cell_leaves r GetTestResult _ = refl
+cell_leaves r GetAlgParams Uninit = refl
+cell_leaves r GetAlgParams _ = refl
+cell_leaves r GetTestAlgorithm Uninit = refl
+cell_leaves r GetTestAlgorithm _ = refl
+cell_leaves r GetNumberOfTestedCells Uninit = refl
+cell_leaves r GetNumberOfTestedCells _ = refl
+cell_leaves r GetExecutionStatus s = refl
+cell_leaves r GetVersionInfo s = refl
+
+pub services_leave_setting : (r : RamTst) (service : Service) → (after r service).setting ≡ r.setting
+services_leave_setting r service = cell_leaves r service r.state
 
 pub handlers_leave_setting : (r : RamTst) (call : HandlerCall) → (ram_table.next r call).setting ≡ r.setting
 unfolding ram_table
-handlers_leave_setting r calls.RamAllow = allow_leaves r r.state
-handlers_leave_setting r calls.RamStop = stop_leaves r r.state
-handlers_leave_setting r calls.RamSuspend = suspend_leaves r r.state
-handlers_leave_setting r calls.RamResume = resume_leaves r r.state
-handlers_leave_setting r calls.RamGetExecutionStatus = refl
-handlers_leave_setting r calls.RamGetTestResult = result_leaves r r.state
-handlers_leave_setting r (calls.RamGetTestResultPerBlock block) = block_leaves r block r.state
-handlers_leave_setting r calls.FlsSuspend = refl
-handlers_leave_setting r calls.FlsResume = refl
-handlers_leave_setting r calls.FlsAbort = refl
-handlers_leave_setting r calls.FlsGetCurrentState = refl
-handlers_leave_setting r calls.FlsGetTestResultBgnd = refl
-handlers_leave_setting r calls.FlsGetTestResultFgnd = refl
+handlers_leave_setting r call = of (handled call)
+  where
+    of : (service : Option Service) → (handler_next r service).setting ≡ r.setting
+    of None = refl
+    of (Some service) = services_leave_setting r service

@@ -3,3 +3,4 @@ pub mod Results
 pub mod Table
 pub mod Kept
 pub mod Event
+pub mod Laws

@@ -2,11 +2,13 @@
 #![tactic(auto)]
 
 mod callee;
+mod laws;
 mod result;
 mod running;
 mod services;
 mod slice;
 mod state;
 
+pub use laws::{handlers_leave_results, services_leave_setting, waits_of_running_calls};
 pub use state::{Ram, State};
 

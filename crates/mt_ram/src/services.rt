@@ -39,6 +39,7 @@ impl Ram {
     pub fn init(&mut self) -> Reply
         ensures reply { result ≡ reply_to self.old Init }
         ensures next { self.new ≡ after self.old Init }
+        ensures setting { self.new.setting ≡ self.old.setting }
     {
         match self.state {
             State::Uninit => {
@@ -53,6 +54,7 @@ impl Ram {
     pub fn de_init(&mut self) -> Reply
         ensures reply { result ≡ reply_to self.old DeInit }
         ensures next { self.new ≡ after self.old DeInit }
+        ensures setting { self.new.setting ≡ self.old.setting }
     {
         match self.state {
             State::Uninit => Reply::Refused(Refusal::Uninit),
@@ -68,6 +70,7 @@ impl Ram {
     pub fn allow(&mut self) -> Reply
         ensures reply { result ≡ reply_to self.old Allow }
         ensures next { self.new ≡ after self.old Allow }
+        ensures setting { self.new.setting ≡ self.old.setting }
     {
         match self.state {
             State::Uninit => Reply::Refused(Refusal::Uninit),
@@ -88,6 +91,7 @@ impl Ram {
     pub fn stop(&mut self) -> Reply
         ensures reply { result ≡ reply_to self.old Stop }
         ensures next { self.new ≡ after self.old Stop }
+        ensures setting { self.new.setting ≡ self.old.setting }
     {
         match self.state {
             State::Uninit => Reply::Refused(Refusal::Uninit),
@@ -105,6 +109,7 @@ impl Ram {
     pub fn suspend(&mut self) -> Reply
         ensures reply { result ≡ reply_to self.old Suspend }
         ensures next { self.new ≡ after self.old Suspend }
+        ensures setting { self.new.setting ≡ self.old.setting }
     {
         match self.state {
             State::Uninit => Reply::Refused(Refusal::Uninit),
@@ -121,6 +126,7 @@ impl Ram {
     pub fn resume(&mut self) -> Reply
         ensures reply { result ≡ reply_to self.old Resume }
         ensures next { self.new ≡ after self.old Resume }
+        ensures setting { self.new.setting ≡ self.old.setting }
     {
         match self.state {
             State::Uninit => Reply::Refused(Refusal::Uninit),
@@ -136,6 +142,7 @@ impl Ram {
     pub fn select_alg_params(&mut self, set: u32) -> Reply
         ensures reply { result ≡ reply_to self.old (SelectAlgParams set) }
         ensures next { self.new ≡ after self.old (SelectAlgParams set) }
+        ensures setting { self.new.setting ≡ self.old.setting }
     {
         match self.state {
             State::Uninit => Reply::Refused(Refusal::Uninit),
@@ -155,6 +162,7 @@ impl Ram {
     pub fn change_number_of_tested_cells(&mut self, cells: u32) -> Reply
         ensures reply { result ≡ reply_to self.old (ChangeNumberOfTestedCells cells) }
         ensures next { self.new ≡ after self.old (ChangeNumberOfTestedCells cells) }
+        ensures setting { self.new.setting ≡ self.old.setting }
     {
         match self.state {
             State::Uninit => Reply::Refused(Refusal::Uninit),

@@ -2,7 +2,7 @@
 use Rattle.std.specs.Prelude.{ℕ, ◌+◌, ◌*◌, ◌<◌, ◌≤◌, ◌≡◌, ◌⊎◌, List, [], ◌∷◌, ◌++◌, map, length, slice_index_or, All, Option, Some, None}
 use Rattle.mt_port.specs.declared.request.Request.{Request}
 use Rattle.mt_port.specs.declared.request.HandlerOp.{HandlerOp}
-use Rattle.mt_port.specs.Board.{AreOrdered}
+use Rattle.mt_port.specs.Board.{Board, AreOrdered}
 use Rattle.mt_window.specs.declared.log.Entry.{Entry}
 use Rattle.mt_window.specs.declared.log.Entry.TheVariants.{Served, Inner, Own}
 use Rattle.mt_window.specs.Serving.{Scene, cost}
@@ -51,6 +51,16 @@ RequestsAreInOrder C X V =
 -- none is left
 abbrev pub NoneIsLeft : (C X V : Type 0) → Type 0
 NoneIsLeft C X V = (r : Running C X V) (s : Scene C) → (event r s).after.board.left ≡ []
+
+-- what an event leaves of the board
+pub record LeavesBoard (a b : Board) : Type 0 where
+  pub shape : b.shape ≡ a.shape
+  pub fault : b.fault ≡ a.fault
+  pub flash : b.flash ≡ a.flash
+  pub held : b.held ≡ a.held
+
+abbrev pub EventsLeaveBoard : (C X V : Type 0) → Type 0
+EventsLeaveBoard C X V = (r : Running C X V) (s : Scene C) → LeavesBoard s.board ((event r s).after.board)
 
 -- the log has room for all requests of an event
 abbrev pub AnEventHasRoom : Type 0
