@@ -1,10 +1,10 @@
 -- One event, put together.
-use Rattle.std.proofs.Common.{ℕ, ◌≡◌, Bool, true, false, cond, List, [], ◌∷◌, Option, refl, sym, ap, ◌∙◌, subst}
+use Rattle.std.proofs.Common.{ℕ, ◌≡◌, Bool, false, List, [], ◌∷◌, Option, refl, sym, ap, ◌∙◌, subst}
 use Rattle.mt_port.specs.declared.board.Touch.{Touch}
 use Rattle.mt_port.specs.Board.{Logs}
 use Rattle.mt_window.specs.declared.reply.Reply.{Reply}
 use Rattle.mt_port.specs.Board.{Board}
-use Rattle.mt_window.specs.Serving.{Scene, scene, serve_due, serve_left}
+use Rattle.mt_window.specs.Serving.{Scene, scene, serve_left}
 use Rattle.mt_window.specs.Slices.{Tests, sequenced, tested, failed_after, slices}
 use Rattle.mt_window.specs.Waits.{LeavesBoard, EventsLeaveBoard}
 use Rattle.mt_window.proofs.Serving.{IsKept, Stays, due_served-stays, left_served-stays, due_served-moves, left_served-moves, cond_case}
@@ -24,8 +24,8 @@ slices-keep {C} r R k (x ∷ more) failed s =
     let t = r.tests in
     let mid : Scene C = scene (sequenced t s.callee x s.board) (t.taken s.callee x (t.verdict s.callee x s.board) failed) s.log in
     cond_case (λ (y : Scene C). R s.callee y.callee) (t.stops s.callee) s (slices t more (failed_after t failed s x) (tested t failed s x)) (k.kept.none s.callee)
-      (k.kept.both s.callee mid.callee _ (k.taken s.callee x (t.verdict s.callee x s.board) failed)
-        (k.kept.both mid.callee ((tested t failed s x).callee) _ (due_served-moves t.table R k.kept s.board.left mid) (slices-keep r R k more (failed_after t failed s x) (tested t failed s x))))
+    (k.kept.both s.callee mid.callee _ (k.taken s.callee x (t.verdict s.callee x s.board) failed)
+    (k.kept.both mid.callee ((tested t failed s x).callee) _ (due_served-moves t.table R k.kept s.board.left mid) (slices-keep r R k more (failed_after t failed s x) (tested t failed s x))))
 
 pub event-keeps : {C X V : Type 0} (r : Running C X V) (R : C → C → Type 0) → KeepsIn r R → (s : Scene C) → R s.callee ((event r s).after.callee)
 event-keeps {C} r R k s =
@@ -53,8 +53,8 @@ slices-board {C} t (x ∷ more) failed s =
     let p = due_served-stays t.table s.board.left mid in
     let one : LeavesBoard s.board ((tested t failed s x).board) = record { shape = p.shape; fault = p.fault; flash = p.flash; held = p.held } in
     cond_case (λ (y : Scene C). LeavesBoard s.board y.board) (t.stops s.callee) s (slices t more (failed_after t failed s x) (tested t failed s x))
-      (record { shape = refl; fault = refl; flash = refl; held = refl })
-      (board-trans one (slices-board t more (failed_after t failed s x) (tested t failed s x)))
+    (record { shape = refl; fault = refl; flash = refl; held = refl })
+    (board-trans one (slices-board t more (failed_after t failed s x) (tested t failed s x)))
 
 pub event-board : {C X V : Type 0} → EventsLeaveBoard C X V
 event-board {C} r s =
@@ -64,7 +64,7 @@ event-board {C} r s =
     let z = ran r o in
     let y = returned r o z in
     board-trans (stays-board (due_served-stays t.table s.board.left first))
-      (board-trans (slices-board t (r.work o.callee) false (entered r o)) (stays-board (left_served-stays t.table z.board.left y)))
+    (board-trans (slices-board t (r.work o.callee) false (entered r o)) (stays-board (left_served-stays t.table z.board.left y)))
 
 -- boundary 0, the slices and the way back, the requests left, and the reply
 pub event-made : {C X V : Type 0} (r : Running C X V) (s o z f : Scene C) (reply : Reply) (made : ℕ) → o ≡ opened r s → z ≡ returned r o (ran r o)

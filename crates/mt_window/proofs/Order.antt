@@ -1,12 +1,12 @@
 -- Requests are served in the order of their line, and none is left.
-use Rattle.std.proofs.Common.{ℕ, suc, zero, ◌+◌, ◌-◌, ◌≡◌, Bool, true, false, cond, leb, List, [], ◌∷◌, ◌++◌, drop, map, Option, Some, None, refl, sym, ap, ◌∙◌, subst, arith, append_assoc, append-nil}
+use Rattle.std.proofs.Common.{ℕ, ◌+◌, ◌-◌, ◌≡◌, Bool, true, false, cond, leb, List, [], ◌∷◌, ◌++◌, drop, map, Option, Some, None, refl, sym, ap, ◌∙◌, append_assoc, append-nil}
 use Rattle.mt_port.specs.declared.request.Request.{Request}
 use Rattle.mt_port.specs.declared.request.HandlerOp.{HandlerOp}
 use Rattle.mt_window.specs.declared.log.Entry.{Entry}
 use Rattle.mt_window.specs.declared.log.Entry.TheVariants.{Served, Inner, Own}
 use Rattle.mt_window.specs.Serving.{Table, Scene, scene, operated, operated_all, reply_by, served, due_served, left_served, begun}
 use Rattle.mt_window.specs.Slices.{Tests, sequenced, tested, failed_after, slices}
-use Rattle.mt_window.specs.Events.{Running, opened, entered, ran, closed, event}
+use Rattle.mt_window.specs.Events.{opened, entered, ran, event}
 use Rattle.mt_window.specs.Waits.{kinds, line_kinds, RequestsAreInOrder, NoneIsLeft}
 use Rattle.mt_window.proofs.Serving.{operated_all-keeps}
 
@@ -33,7 +33,7 @@ total s = kinds s.log ++ line_kinds (s.board.taken + 1) s.board.left
 served-total : {C : Type 0} (t : Table C) (r : Request) (rs : List Request) (w : ℕ) (s : Scene C) → s.board.left ≡ r ∷ rs → total (served t r w s) ≡ total s
 served-total {C} t r rs w s e =
     let b : Scene C = begun (record { number = s.board.taken + 1; at = s.board.count; request = r }) w
-        (record (s.board) { left = drop 1 s.board.left; taken = s.board.taken + 1 }) s.callee s.log in
+    (record (s.board) { left = drop 1 s.board.left; taken = s.board.taken + 1 }) s.callee s.log in
     let k = operated_all-keeps t r.ops.items b in
     let z = served t r w s in
     let rest = line_kinds ((s.board.taken + 1) + 1) rs in

@@ -1,10 +1,10 @@
 -- What operations leave of the board.
-use Rattle.std.proofs.Common.{ℕ, suc, ◌+◌, ◌-◌, ◌<◌, ◌≤◌, ◌≡◌, Bool, true, false, cond, leb, List, [], ◌∷◌, ◌++◌, drop, length, get_or, Option, Some, None, refl, sym, ap, ◌∙◌, subst, arith, length-append}
+use Rattle.std.proofs.Common.{ℕ, suc, ◌+◌, ◌-◌, ◌<◌, ◌≤◌, ◌≡◌, Bool, true, false, cond, leb, List, [], ◌∷◌, ◌++◌, drop, length, get_or, Some, None, refl, sym, ap, ◌∙◌, subst, arith, length-append}
 use Rattle.std.proofs.lemmas.List.{at_drop_more}
 use Rattle.std.proofs.lemmas.Bool.{le-leb}
 use Rattle.std.proofs.lemmas.Bool.Decides.{nat_tests}
 use Rattle.mt_port.specs.declared.board.Shape.{Shape}
-use Rattle.std.specs.Prelude.{All, nat_le}
+use Rattle.std.specs.Prelude.{All}
 use Rattle.mt_port.specs.declared.request.Request.{Request}
 use Rattle.mt_port.specs.declared.request.Due.{Due}
 use Rattle.mt_port.specs.declared.request.HandlerOp.{HandlerOp}
@@ -12,9 +12,8 @@ use Rattle.mt_port.specs.declared.request.HandlerOp.TheVariants.{App, Call}
 use Rattle.mt_port.specs.declared.request.HandlerCall.{HandlerCall}
 use Rattle.mt_port.specs.declared.request.Module.{Module}
 use Rattle.mt_port.specs.Board.{Board, AreOrdered, first_due, first_left, after_take}
-use Rattle.mt_window.specs.declared.log.Entry.{Entry}
 use Rattle.mt_window.specs.declared.log.Entry.TheVariants.{Served, Inner}
-use Rattle.mt_window.specs.Serving.{Table, Scene, scene, operated, operated_all, reply_by, callee_by, begun, served, due_served, left_served, cost, IsReady, IsSoundHandlerOp}
+use Rattle.mt_window.specs.Serving.{Table, Scene, operated, operated_all, reply_by, callee_by, begun, served, due_served, left_served, cost, IsReady, IsSoundHandlerOp}
 
 -- one more operation
 pub operated_all-step : {C : Type 0} (t : Table C) (ops : List HandlerOp) (i : ℕ) (d : HandlerOp) (s s' : Scene C) → i < length ops

@@ -1,5 +1,5 @@
 -- What is left to do of slices, as they are tested one after another.
-use Rattle.std.proofs.Common.{ℕ, suc, zero, ◌+◌, ◌≡◌, Bool, true, false, cond, List, [], ◌∷◌, ◌++◌, drop, Option, Some, None, refl, sym, ap, ◌∙◌, subst, arith, append_assoc, append-nil}
+use Rattle.std.proofs.Common.{◌≡◌, Bool, true, false, cond, List, [], ◌∷◌, ◌++◌, Option, Some, None, refl, sym, ap, ◌∙◌, subst, append_assoc, append-nil}
 use Rattle.mt_port.specs.declared.board.Touch.{Touch}
 use Rattle.mt_port.specs.Board.{Logs}
 use Rattle.mt_window.specs.Serving.{Scene}
@@ -60,15 +60,15 @@ pub reaches-step : {C X V : Type 0} (t : Tests C X V) (all : List X) (first : Bo
     → Logs now then (t.touches s.callee x s.board) → Reaches t all first a told more failed' z then
 reaches-step t all first a told left failed s now x more failed' z then h split goes e f log =
     let one : slices t left failed s ≡ slices t more (failed_after t failed s x) (tested t failed s x) =
-      ap (λ (l : List _). slices t l failed s) split ∙ ap (λ (b : Bool). cond b s (slices t more (failed_after t failed s x) (tested t failed s x))) goes in
+    ap (λ (l : List _). slices t l failed s) split ∙ ap (λ (b : Bool). cond b s (slices t more (failed_after t failed s x) (tested t failed s x))) goes in
     let two : touches t left failed s ≡ t.touches s.callee x s.board ++ touches t more (failed_after t failed s x) (tested t failed s x) =
-      ap (λ (l : List _). touches t l failed s) split
-      ∙ ap (λ (b : Bool). cond b [] (t.touches s.callee x s.board ++ touches t more (failed_after t failed s x) (tested t failed s x))) goes in
+    ap (λ (l : List _). touches t l failed s) split
+    ∙ ap (λ (b : Bool). cond b [] (t.touches s.callee x s.board ++ touches t more (failed_after t failed s x) (tested t failed s x))) goes in
     record {
       same = ap (λ (b : Bool). slices t more b z) f ∙ ap (slices t more (failed_after t failed s x)) e ∙ sym one ∙ h.same;
       tape = Recorded-more told now then (t.touches s.callee x s.board) (touches t more failed' z) (touches t left failed s) (touches t all first a)
           (two ∙ ap (λ (l : List Touch). t.touches s.callee x s.board ++ l)
-            (sym (ap (λ (b : Bool). touches t more b z) f ∙ ap (touches t more (failed_after t failed s x)) e))) h.tape log;
+          (sym (ap (λ (b : Bool). touches t more b z) f ∙ ap (touches t more (failed_after t failed s x)) e))) h.tape log;
     }
 
 -- the module is stopped, or no slice is left

@@ -1,5 +1,5 @@
 -- Each wait is 0 or below the length of the attempt that it meets.
-use Rattle.std.proofs.Common.{ℕ, suc, zero, ◌+◌, ◌-◌, ◌*◌, ◌<◌, ◌≤◌, ◌≡◌, Bool, true, false, cond, leb, List, [], ◌∷◌, ◌++◌, drop, length, get_or, refl, sym, ap, ◌∙◌, subst, arith, inl, inr}
+use Rattle.std.proofs.Common.{ℕ, suc, ◌+◌, ◌-◌, ◌*◌, ◌<◌, ◌≤◌, ◌≡◌, Bool, true, false, cond, leb, List, [], ◌∷◌, ◌++◌, drop, length, get_or, refl, sym, ap, ◌∙◌, subst, arith, inl, inr}
 use Rattle.std.specs.Prelude.{All, ◌⊎◌}
 use Rattle.std.proofs.lemmas.Bool.{leb-true}
 use Rattle.std.proofs.lemmas.Bool.Decides.{leb_tells}
@@ -9,12 +9,12 @@ use Rattle.mt_port.specs.declared.request.Request.{Request}
 use Rattle.mt_port.specs.declared.request.HandlerOp.{HandlerOp}
 use Rattle.mt_window.specs.declared.reply.Reply.{Reply}
 use Rattle.mt_window.specs.declared.log.Entry.{Entry}
-use Rattle.mt_window.specs.declared.log.Entry.TheVariants.{Served, Inner, Own}
-use Rattle.mt_window.specs.Serving.{Table, Scene, scene, operated, operated_all, reply_by, served, due_served, left_served, serve_due, serve_left, begun, cost}
+use Rattle.mt_window.specs.declared.log.Entry.TheVariants.{Served, Inner}
+use Rattle.mt_window.specs.Serving.{Table, Scene, scene, operated, operated_all, reply_by, served, due_served, left_served, cost}
 use Rattle.mt_window.specs.Slices.{Tests, Attempt, sequenced, tested, failed_after, slices, attempts, attempts_at}
-use Rattle.mt_window.specs.Events.{Running, opened, entered, ran, closed, event, event_attempts}
-use Rattle.mt_window.specs.Waits.{Meets, IsShort, WaitsAreShort, AnEventHasRoom}
-use Rattle.mt_window.proofs.Serving.{operated_all-keeps, due_served-stays, cond_case}
+use Rattle.mt_window.specs.Events.{opened, entered, ran, event_attempts}
+use Rattle.mt_window.specs.Waits.{IsShort, WaitsAreShort, AnEventHasRoom}
+use Rattle.mt_window.proofs.Serving.{operated_all-keeps}
 
 -- each item, by recursion
 abbrev Each : {X : Type 0} → (X → Type 0) → List X → Type 0
@@ -98,7 +98,7 @@ slices-log {C} {X} {V} t P inner (x ∷ more) failed s late each all =
   where
     of : (b : Bool) → Each (λ (a : Attempt). (n w : ℕ) → w < a.hold → P (Served n a.finish w)) (cond b [] (attempts_at t s x ++ attempts t more (failed_after t failed s x) (tested t failed s x)))
         → (Each (λ (a : Attempt). (n w : ℕ) → w < a.hold → P (Served n a.finish w)) (attempts_at t s x ++ attempts t more (failed_after t failed s x) (tested t failed s x))
-          → All P ((slices t more (failed_after t failed s x) (tested t failed s x)).log))
+        → All P ((slices t more (failed_after t failed s x) (tested t failed s x)).log))
         → All P ((cond b s (slices t more (failed_after t failed s x) (tested t failed s x))).log)
     of true each next = all
     of false each next = next each
@@ -129,7 +129,7 @@ event-waits {C} {X} {V} r s empty zero_count order =
     let each_run : Each (λ (a : Attempt). (n w : ℕ) → w < a.hold → P (Served n a.finish w)) made =
     Each-member made (λ (a : Attempt). (n w : ℕ) → w < a.hold → P (Served n a.finish w)) (λ k h n w below. inr (record { which = k; one = h; finish = refl; below = below })) in
     left_served-log t.table P (λ q. tt) (λ n b. inl refl) z.board.left (scene z.board (r.back o.callee z.callee) z.log)
-      (slices-log t P (λ q. tt) (r.work o.callee) false (entered r o) late_in each_run all)
+    (slices-log t P (λ q. tt) (r.work o.callee) false (entered r o) late_in each_run all)
 
 pub event-room : AnEventHasRoom
 event-room [] few short = omega arith

@@ -1,5 +1,5 @@
 -- One running event of a module.
-use Rattle.std.specs.Prelude.{ℕ, Bool, false, List}
+use Rattle.std.specs.Prelude.{ℕ, false, List}
 use Rattle.mt_port.specs.declared.board.Touch.{Touch}
 use Rattle.mt_window.specs.declared.reply.Reply.{Reply}
 use Rattle.mt_window.specs.Serving.{Scene, scene, serve_due, serve_left}

@@ -1,5 +1,5 @@
 -- The serving of requests at a boundary and at an event's end.
-use Rattle.std.specs.Prelude.{ℕ, Bool, false, List, [], ◌∷◌, ◌++◌, ◌≡◌, ◌<◌, ◌≤◌, ◌+◌, ◌-◌, length, drop, All, if◌then◌else◌, nat_le}
+use Rattle.std.specs.Prelude.{ℕ, false, List, [], ◌∷◌, ◌++◌, ◌≡◌, ◌≤◌, ◌+◌, ◌-◌, length, drop, All, if◌then◌else◌, nat_le}
 use Rattle.mt_port.specs.declared.board.Shape.{Shape}
 use Rattle.mt_port.specs.declared.request.Module.{Module}
 use Rattle.mt_port.specs.declared.request.HandlerCall.{HandlerCall}

@@ -1,5 +1,5 @@
 -- How long requests wait, and in which order they are served.
-use Rattle.std.specs.Prelude.{ℕ, ◌+◌, ◌*◌, ◌<◌, ◌≤◌, ◌≡◌, ◌⊎◌, List, [], ◌∷◌, ◌++◌, map, length, slice_index_or, All, Option, Some, None}
+use Rattle.std.specs.Prelude.{ℕ, ◌+◌, ◌<◌, ◌≤◌, ◌≡◌, ◌⊎◌, List, [], ◌∷◌, ◌++◌, map, length, slice_index_or, All, Option, Some, None}
 use Rattle.mt_port.specs.declared.request.Request.{Request}
 use Rattle.mt_port.specs.declared.request.HandlerOp.{HandlerOp}
 use Rattle.mt_port.specs.Board.{Board, AreOrdered}

@@ -1,11 +1,11 @@
-use Rattle.std.proofs.Common.{◌≡◌, ◌∙◌, ◌-◌, ◌+◌, ◌<◌, ◌≤◌, ℕ, sym, ap, subst, arith, length, refl, List}
+use Rattle.std.proofs.Common.{◌∙◌, ◌-◌, sym, ap, subst, arith, length, List}
 use Rattle.std.specs.Prelude.{All}
 use Rattle.mt_port.specs.Board.{Board}
 use Rattle.mt_port.specs.declared.board.Shape.{Shape}
 use Rattle.mt_port.specs.declared.request.Due.{Due}
 use Rattle.mt_port.specs.declared.request.Request.{Request}
-use Rattle.mt_window.specs.Serving.{Scene, scene, served, IsSoundHandlerOp}
-use Rattle.mt_window.proofs.Serving.{Handed, due_handed, left_handed, handed_served, due_step, left_step, ready_step, handler_sound, served-left}
+use Rattle.mt_window.specs.Serving.{scene, IsSoundHandlerOp}
+use Rattle.mt_window.proofs.Serving.{due_handed, handed_served, due_step, ready_step, handler_sound, served-left}
 use Rattle.mt_window.proofs.serve.serve_due.Goals as goal
 
 pub serve_one-requires-clause-sound : goal.serve_one-requires-clause-sound
