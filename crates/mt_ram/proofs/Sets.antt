@@ -37,9 +37,9 @@ accepted_spans shape set limits ok =
       small = ok.atomic_small;
       few = omega (arith, many, ok.few);
       ordered = λ i h. let inside : i < length set.blocks = omega (arith, many, h) in
-        subst (λ (s : Span). s.first ≤ s.last) (sym (spans_at set.blocks i inside)) (accepted_block shape set i ok inside).ordered;
+          subst (λ (s : Span). s.first ≤ s.last) (sym (spans_at set.blocks i inside)) (accepted_block shape set i ok inside).ordered;
       limit = λ i h. let inside : i < length set.blocks = omega (arith, many, h) in
-        subst (λ (s : Span). s.last < 65536) (sym (spans_at set.blocks i inside)) (let low = (accepted_block shape set i ok inside).inside in omega (arith, low, limits.ram));
+          subst (λ (s : Span). s.last < 65536) (sym (spans_at set.blocks i inside)) (let low = (accepted_block shape set i ok inside).inside in omega (arith, low, limits.ram));
     }
 
 pub block_there : (set : ParamSet) (at : Position) → IsValid set.atomic (spans_of set.blocks) at → at.block < length set.blocks

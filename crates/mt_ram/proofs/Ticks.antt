@@ -107,7 +107,7 @@ tick_step set s z L on at some e =
     let next = on_next K spans at.place L ok at.valid at.front some in
     let b = at_boundary mid z e in
     let place : next_place s.callee P.place ≡ or_start (next_of K spans at.place) =
-      ap (λ (x : ParamSet). or_start (next_of x.atomic (spans_of x.blocks) (place_of s.callee.state))) on.same ∙ ap (λ (p : Position). or_start (next_of K spans p)) here in
+    ap (λ (x : ParamSet). or_start (next_of x.atomic (spans_of x.blocks) (place_of s.callee.state))) on.same ∙ ap (λ (p : Position). or_start (next_of K spans p)) here in
     let accepted : IsAccepted (job_of s.callee P).alg = subst (λ (x : ParamSet). IsAccepted x.alg) (sym on.same) on.accepted.accepted in
     let small : P.slice.n ≤ 64 = omega (arith, ap (λ (x : ParamSet). x.atomic) on.same, ok.small) in
     let still : z.callee ≡ record (mid.callee) { state = z.callee.state; failed = z.callee.failed; mark = z.callee.mark } = b.moved.still in

@@ -4,3 +4,4 @@ pub mod Table
 pub mod Kept
 pub mod Event
 pub mod Laws
+pub mod Example

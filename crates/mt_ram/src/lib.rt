@@ -12,3 +12,5 @@ mod state;
 pub use laws::{handlers_leave_results, services_leave_setting, waits_of_running_calls};
 pub use state::{Ram, State};
 
+#[cfg(test)]
+mod tests;

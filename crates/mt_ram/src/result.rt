@@ -8,12 +8,7 @@ use mt_seq::Verdict;
 use mt_window::TestResult;
 
 /// A block's result at the end of a slice of its test.
-pub(crate) fn next_result(
-    old: TestResult,
-    verdict: Verdict,
-    failed: bool,
-    last: bool,
-) -> TestResult
+pub(crate) fn next_result(old: TestResult, verdict: Verdict, failed: bool, last: bool) -> TestResult
     ensures { result ≡ result_after old verdict failed last }
 {
     match (verdict, last, old) {

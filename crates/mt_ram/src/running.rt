@@ -24,11 +24,11 @@ fn reply_to_tick(state: State, made: u32) -> Reply
     ensures { (r : _) → result ≡ reply_in (cell r MainFunction state) made }
 {
     match state {
-        State::Uninit => Reply::Refused(Refusal::Uninit),
         State::Running { .. } => Reply::Ran(made),
         State::Stopped | State::Suspended { .. } | State::Full | State::Partial { .. } => {
             Reply::Ran(0)
         }
+        State::Uninit => Reply::Refused(Refusal::Uninit),
     }
 }
 
@@ -177,13 +177,7 @@ impl Ram {
     }
 
     // The slices from a position on: to the end of the pass, or of the block.
-    fn run_test<P: Port>(
-        &mut self,
-        port: &mut P,
-        log: &mut EventLog,
-        from: Position,
-        whole: bool,
-    )
+    fn run_test<P: Port>(&mut self, port: &mut P, log: &mut EventLog, from: Position, whole: bool)
         requires ready { IsReady Itself (P.state port.old) log.old }
         requires shape { (P.state port.old).shape ≡ self.old.setting.shape }
         requires start { (P.state port.old).count ≡ 0 }

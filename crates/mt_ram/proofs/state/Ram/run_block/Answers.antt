@@ -18,7 +18,7 @@ use Rattle.mt_ram.specs.State.{RamTst, set_of, spans_in}
 use Rattle.mt_ram.specs.Table.{RunPartialTest, Runs, Refuses, row}
 use Rattle.mt_ram.specs.Event.{of_test, test_from}
 use Rattle.mt_ram.proofs.Sets.{accepted_spans}
-use Rattle.mt_ram.proofs.Tests.{runs, runs_tape}
+use Rattle.mt_ram.proofs.WholeTests.{runs, runs_tape}
 use Rattle.mt_ram.proofs.state.Ram.run_block.Goals as goal
 
 pub run_test-requires-clause-few : goal.run_test-requires-clause-few
@@ -46,9 +46,9 @@ returns-then-has_block-clause-scene g c =
     let ok : IsAcceptedSet r.setting.shape (set_of r) = subst (λ (x : RamTst). IsAcceptedSet x.setting.shape (set_of x)) c.set_state.ensures.state c.set_state.ensures.accepted in
     let there = c.requires.row ∙ ap (λ (b : Bool). cond b (Runs L (Partial c.args.back) c.args.state) (Refuses refusal.Range)) (sym c.has_block.ensures ∙ c.if-has_block.true) in
     let made : y ≡ slices of_test L false (scene o.board inside o.log) =
-      c.run_test.ensures.scene
-      ∙ ap (λ (x : RamTst). slices of_test (block_from (set_of x).atomic (spans_in x) from) false (scene o.board x o.log)) c.set_state.ensures.state
-      ∙ ap (λ (l : List Piece). slices of_test l false (scene o.board inside o.log)) (block_first (set_of r).atomic (spans_in r) i ok.atomic_some) in
+    c.run_test.ensures.scene
+    ∙ ap (λ (x : RamTst). slices of_test (block_from (set_of x).atomic (spans_in x) from) false (scene o.board x o.log)) c.set_state.ensures.state
+    ∙ ap (λ (l : List Piece). slices of_test l false (scene o.board inside o.log)) (block_first (set_of r).atomic (spans_in r) i ok.atomic_some) in
     let end : z ≡ scene y.board (record (y.callee) { state = c.args.state }) y.log = ap (λ (x : RamTst). scene y.board x y.log) c.set_state-then-has_block.ensures.state in
     runs of_test (RunPartialTest i) o z L (Partial c.args.back) c.args.state y there made end
 

@@ -15,7 +15,7 @@ use Rattle.mt_ram.specs.State.{RamTst, set_of, spans_in}
 use Rattle.mt_ram.specs.Table.{RunFullTest, cell}
 use Rattle.mt_ram.specs.Event.{of_test, test_from}
 use Rattle.mt_ram.proofs.Sets.{accepted_spans, start_valid}
-use Rattle.mt_ram.proofs.Tests.{runs, runs_tape}
+use Rattle.mt_ram.proofs.WholeTests.{runs, runs_tape}
 use Rattle.mt_ram.proofs.state.Ram.run_full_from.Goals as goal
 
 pub run_test-requires-clause-valid : goal.run_test-requires-clause-valid
@@ -43,9 +43,9 @@ returns-in-Stopped-clause-scene g c =
     let inside : RamTst = record r { state = Full } in
     let ok : IsAcceptedSet r.setting.shape (set_of r) = subst (λ (x : RamTst). IsAcceptedSet x.setting.shape (set_of x)) c.set_state.ensures.state c.set_state.ensures.accepted in
     let made : y ≡ slices of_test (pass (set_of r).atomic (spans_in r)) false (scene o.board inside o.log) =
-      c.run_test.ensures.scene
-      ∙ ap (λ (x : RamTst). slices of_test (from_place (set_of x).atomic (spans_in x) start) false (scene o.board x o.log)) c.set_state.ensures.state
-      ∙ ap (λ (l : List Piece). slices of_test l false (scene o.board inside o.log)) (from_first (set_of r).atomic (spans_in r) 0 ok.atomic_some) in
+    c.run_test.ensures.scene
+    ∙ ap (λ (x : RamTst). slices of_test (from_place (set_of x).atomic (spans_in x) start) false (scene o.board x o.log)) c.set_state.ensures.state
+    ∙ ap (λ (l : List Piece). slices of_test l false (scene o.board inside o.log)) (from_first (set_of r).atomic (spans_in r) 0 ok.atomic_some) in
     let end : z ≡ scene y.board (record (y.callee) { state = Stopped }) y.log = ap (λ (x : RamTst). scene y.board x y.log) c.set_state-in-Stopped.ensures.state in
     runs of_test RunFullTest o z (pass (set_of r).atomic (spans_in r)) Full Stopped y (ap (cell r RunFullTest) (c.requires.state ∙ c.in-Stopped.is)) made end
 

@@ -31,7 +31,7 @@ loop-k-preserved g c =
     let front = from_place (set_of r).atomic (spans_in r) at in
     let len : c.group_at-len.result ≡ group_len r.cells front = c.group_at-len.ensures.len in
     let long : length all ≡ group_len r.cells front =
-      ap (λ (x : State). length (work_in (cell r MainFunction x))) state ∙ length-take-le (group_len r.cells front) front (group_len-le r.cells front) in
+    ap (λ (x : State). length (work_in (cell r MainFunction x))) state ∙ length-take-le (group_len r.cells front) front (group_len-le r.cells front) in
     let some : 0 < length L = omega (arith, length-drop k all, len, long, c.loop-k-test.true) in
     let st = tick_step (set_of r) s z L inv.on (inv.place clear) some c.run_slice_of_pass.ensures.scene in
     let one = drop_one_more k all in
@@ -43,7 +43,7 @@ loop-k-preserved g c =
       count = omega (arith, st.count, inv.count);
       place = λ h. subst (OnPlace (set_of r) c.run_slice_of_pass.new.self.state) one (st.place h);
       reach = subst (λ (l : List Piece). Reaches of_pass all false (scene (g.P.Port.state c.args.port.now) r c.args.log.now) (g.P.Port.tape c.args.port.now) l false z (g.P.Port.tape c.run_slice_of_pass.new.port)) one
-        (reaches-step of_pass all false (scene (g.P.Port.state c.args.port.now) r c.args.log.now) (g.P.Port.tape c.args.port.now) L false s (g.P.Port.tape c.loop-k.port)
+          (reaches-step of_pass all false (scene (g.P.Port.state c.args.port.now) r c.args.log.now) (g.P.Port.tape c.args.port.now) L false s (g.P.Port.tape c.loop-k.port)
           (piece_at (set_of s.callee).atomic (spans_in s.callee) (place_of s.callee.state)) (drop 1 L) false z (g.P.Port.tape c.run_slice_of_pass.new.port)
           inv.reach st.split clear c.run_slice_of_pass.ensures.scene refl c.run_slice_of_pass.ensures.tape);
     }

@@ -9,7 +9,7 @@ use Rattle.mt_blocks.specs.Accepted.{spans_of}
 use Rattle.mt_ram.specs.State.{RamTst, set_of, spans_in}
 use Rattle.mt_ram.specs.Event.{of_test, test_from, test_rest, next_in}
 use Rattle.mt_ram.proofs.Sets.{accepted_spans}
-use Rattle.mt_ram.proofs.Tests.{test_split, next_in-valid, test_step}
+use Rattle.mt_ram.proofs.WholeTests.{test_split, next_in-valid, test_step}
 use Rattle.mt_ram.proofs.state.Ram.run_test.Goals as goal
 
 Some-inj : {p q : Position} → Some p ≡ Some q → p ≡ q
@@ -73,9 +73,9 @@ loop-next-preserved g c =
     let more = test_rest whole set c.next_of_test-next.result in
     let piece : piece_at set.atomic (spans_of set.blocks) at ≡ P = sym (ap (λ (x : ParamSet). piece_at x.atomic (spans_of x.blocks) at) inv.on.same) in
     let split : test_rest whole set c.loop-next.next ≡ P ∷ more =
-      ap (test_rest whole set) c.in-Some.is ∙ test_split whole set at ok (inv.valid at c.in-Some.is)
-      ∙ ap (λ (o : Option Position). piece_at set.atomic (spans_of set.blocks) at ∷ test_rest whole set o) (sym next)
-      ∙ ap (λ (x : Piece). x ∷ more) piece in
+    ap (test_rest whole set) c.in-Some.is ∙ test_split whole set at ok (inv.valid at c.in-Some.is)
+    ∙ ap (λ (o : Option Position). piece_at set.atomic (spans_of set.blocks) at ∷ test_rest whole set o) (sym next)
+    ∙ ap (λ (x : Piece). x ∷ more) piece in
     record {
       ready = c.run_slice_of_test-failed.ensures.ready;
       on = st.on;
@@ -85,6 +85,6 @@ loop-next-preserved g c =
       valid = λ q e. next_in-valid whole set at q ok (inv.valid at c.in-Some.is) (sym next ∙ e);
       count = omega (arith, st.count, inv.count, ap word_count split);
       reach = reaches-step of_test (test_from whole set c.args.from) false (scene (g.P.Port.state c.args.port.now) r c.args.log.now) (g.P.Port.tape c.args.port.now)
-        (test_rest whole set c.loop-next.next) c.loop-next.failed s (g.P.Port.tape c.loop-next.port) P more c.run_slice_of_test-failed.result z (g.P.Port.tape c.run_slice_of_test-failed.new.port)
-        inv.reach split refl c.run_slice_of_test-failed.ensures.scene c.run_slice_of_test-failed.ensures.failed c.run_slice_of_test-failed.ensures.tape;
+          (test_rest whole set c.loop-next.next) c.loop-next.failed s (g.P.Port.tape c.loop-next.port) P more c.run_slice_of_test-failed.result z (g.P.Port.tape c.run_slice_of_test-failed.new.port)
+          inv.reach split refl c.run_slice_of_test-failed.ensures.scene c.run_slice_of_test-failed.ensures.failed c.run_slice_of_test-failed.ensures.tape;
     }

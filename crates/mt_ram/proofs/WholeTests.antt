@@ -45,8 +45,8 @@ test_split false set p ok valid = of (leb_tells (span_len (span_at (spans_of set
     of (inr h) =
         block_step set.atomic (spans_of set.blocks) p ok valid h.1
         ∙ ap (λ (b : Bool). piece_at set.atomic (spans_of set.blocks) p ∷ test_rest false set (cond b (Some (record { block = p.block; offset = p.offset + set.atomic }))
-              (cond (ltb (p.block + 1) (length (spans_of set.blocks))) (Some (record { block = p.block + 1; offset = 0 })) None)))
-            (sym (lt-ltb set.atomic (span_len (span_at (spans_of set.blocks) p.block) - p.offset) h.1))
+        (cond (ltb (p.block + 1) (length (spans_of set.blocks))) (Some (record { block = p.block + 1; offset = 0 })) None)))
+        (sym (lt-ltb set.atomic (span_len (span_at (spans_of set.blocks) p.block) - p.offset) h.1))
         ∙ ap (λ (b : Bool). piece_at set.atomic (spans_of set.blocks) p ∷ test_rest false set (cond b None (next_of set.atomic (spans_of set.blocks) p))) (sym h.0)
 
 pub next_in-valid : (whole : Bool) (set : ParamSet) (p q : Position) → AreSpans set.atomic (spans_of set.blocks) → IsValid set.atomic (spans_of set.blocks) p
