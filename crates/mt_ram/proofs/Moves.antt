@@ -8,12 +8,11 @@ use Rattle.mt_port.specs.declared.request.HandlerCall.{HandlerCall}
 use Rattle.mt_port.specs.declared.request.HandlerCall.TheVariants as calls
 use Rattle.mt_window.specs.Serving.{Scene, serve_due}
 use Rattle.mt_window.proofs.Serving.{IsKept, Stays, due_served-stays, due_served-moves, left_served-moves}
-use Rattle.mt_blocks.specs.declared.pass.Position.{Position}
 use Rattle.mt_ram.specs.declared.state.State.{State}
 use Rattle.mt_ram.specs.declared.state.State.TheVariants.{Uninit, Stopped, Running, Suspended, Full, Partial}
-use Rattle.mt_ram.specs.State.{Setting, RamTst, IsRunning, IsInside}
+use Rattle.mt_ram.specs.State.{RamTst, IsRunning, IsInside}
 use Rattle.mt_ram.specs.Laws.{Moves, BoundariesMove, RequestsLeftMove}
-use Rattle.mt_ram.specs.Table.{Service, Allow, Stop, Suspend, Resume, GetTestResult, GetTestResultPerBlock, Cell, Refuses, Goes, Answers, Rests, Ticks, Runs, cell, next_in, telling, ram_table}
+use Rattle.mt_ram.specs.Table.{Allow, Stop, Suspend, Resume, GetTestResult, GetTestResultPerBlock, Refuses, Answers, cell, next_in, telling, ram_table}
 
 pub Moves-refl : (a : RamTst) → Moves a a
 Moves-refl a = record { still = refl; unmarked = λ h. h; running = λ h r. refl; inside = λ r. refl }

@@ -1,21 +1,17 @@
 -- The sets of an accepted configuration.
-use Rattle.std.proofs.Common.{ℕ, ◌+◌, ◌-◌, ◌*◌, ◌<◌, ◌≤◌, ◌≡◌, Bool, true, false, List, map, length, get_or, refl, sym, ap, ◌∙◌, subst, arith, Option, Some, None}
+use Rattle.std.proofs.Common.{ℕ, ◌*◌, ◌<◌, ◌≤◌, ◌≡◌, List, length, refl, sym, ap, ◌∙◌, subst, arith, Option, Some, None}
 use Rattle.std.proofs.Math.Nat.{div-eq_of_lt}
-use Rattle.std.specs.Prelude.{All}
 use Rattle.std.proofs.lemmas.List.{length-map, get_or-map}
-use Rattle.mt_word.specs.Word.{Fits}
-use Rattle.mt_plan.specs.declared.algorithm.Policy.TheVariants.{NonDestructive}
 use Rattle.mt_port.specs.declared.board.Shape.{Shape}
 use Rattle.mt_port.specs.Board.{IsWithinLimits}
-use Rattle.mt_seq.specs.Sequence.{IsSoundJob, is_transparent}
+use Rattle.mt_seq.specs.Sequence.{IsSoundJob}
 use Rattle.mt_blocks.specs.declared.span.Span.{Span}
 use Rattle.mt_blocks.specs.declared.pass.Position.{Position}
 use Rattle.mt_blocks.specs.declared.config.Block.{Block}
 use Rattle.mt_blocks.specs.declared.config.ParamSet.{ParamSet}
-use Rattle.mt_blocks.specs.declared.config.RamConfig.{RamConfig}
-use Rattle.mt_blocks.specs.Slices.{AreSpans, IsValid, span_at, no_span, span_len, next_of, start}
-use Rattle.mt_blocks.specs.Accepted.{IsAcceptedBlock, IsAcceptedSet, IsAcceptedRam, block_at, no_block, set_at, no_set, spans_of}
-use Rattle.mt_blocks.proofs.Passes.{next_valid, start_of-valid}
+use Rattle.mt_blocks.specs.Slices.{AreSpans, IsValid, span_at, no_span, next_of}
+use Rattle.mt_blocks.specs.Accepted.{IsAcceptedBlock, IsAcceptedSet, block_at, no_block, no_set, spans_of}
+use Rattle.mt_blocks.proofs.Passes.{next_valid}
 use Rattle.mt_seq.specs.declared.sequence.Job.{Job}
 use Rattle.mt_seq.specs.Sequence.{sequence_hold}
 use Rattle.mt_seq.proofs.Lengths.{holds_are_short}

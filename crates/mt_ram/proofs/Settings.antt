@@ -1,11 +1,10 @@
 -- Running events leave the setting.
-use Rattle.std.proofs.Common.{ℕ, ◌≡◌, Bool, refl, ◌∙◌}
-use Rattle.mt_window.specs.Serving.{Scene}
+use Rattle.std.proofs.Common.{◌≡◌, refl, ◌∙◌}
 use Rattle.mt_window.proofs.Serving.{IsKept}
 use Rattle.mt_window.proofs.Events.{KeepsIn, event-keeps}
 use Rattle.mt_ram.specs.State.{RamTst}
 use Rattle.mt_ram.specs.Table.{Service, Cell, Refuses, Goes, Answers, Rests, Ticks, Runs, row, ram_table}
-use Rattle.mt_ram.specs.Event.{inside_of, back_from, running, of_pass, of_test, ticking, full_test, partial_test}
+use Rattle.mt_ram.specs.Event.{inside_of, back_from, running, of_pass, of_test}
 use Rattle.mt_ram.specs.Kept.{handlers_leave_setting}
 use Rattle.mt_ram.specs.Laws.{LeavesSetting}
 

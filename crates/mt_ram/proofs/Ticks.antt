@@ -1,5 +1,5 @@
 -- A tick, slice by slice.
-use Rattle.std.proofs.Common.{ℕ, suc, zero, ◌+◌, ◌-◌, ◌*◌, ◌<◌, ◌≤◌, ◌≡◌, Bool, true, false, cond, leb, List, [], ◌∷◌, ◌++◌, drop, take, length, min, Option, Some, None, refl, sym, ap, ◌∙◌, subst, arith}
+use Rattle.std.proofs.Common.{ℕ, suc, zero, ◌+◌, ◌-◌, ◌*◌, ◌<◌, ◌≤◌, ◌≡◌, false, leb, List, [], ◌∷◌, drop, take, length, Option, Some, None, refl, sym, ap, ◌∙◌, subst, arith}
 use Rattle.mt_window.specs.Serving.{Scene, scene}
 use Rattle.mt_port.specs.declared.board.Touch.{Touch}
 use Rattle.mt_port.specs.Board.{Logs}
@@ -7,19 +7,18 @@ use Rattle.mt_window.specs.Slices.{sequenced, tested, slices, touches}
 use Rattle.mt_window.specs.Events.{ran, returned, touches_from}
 use Rattle.mt_window.proofs.Serving.{cond_case}
 use Rattle.mt_plan.specs.Plan.{IsAccepted}
-use Rattle.mt_port.specs.declared.board.Shape.{Shape}
 use Rattle.mt_port.specs.Board.{IsWithinLimits}
 use Rattle.mt_blocks.specs.declared.span.Span.{Span}
 use Rattle.mt_blocks.specs.declared.pass.Position.{Position}
 use Rattle.mt_blocks.specs.declared.config.ParamSet.{ParamSet}
-use Rattle.mt_blocks.specs.Slices.{Piece, from_place, piece_at, next_of, start, AreSpans, IsValid}
+use Rattle.mt_blocks.specs.Slices.{Piece, from_place, piece_at, next_of, AreSpans, IsValid}
 use Rattle.mt_blocks.specs.Groups.{group_len}
 use Rattle.mt_blocks.specs.Accepted.{IsAcceptedSet, spans_of, set_at}
-use Rattle.mt_blocks.proofs.Passes.{from_next, from_step, next_valid}
+use Rattle.mt_blocks.proofs.Passes.{from_next, from_step}
 use Rattle.mt_ram.specs.declared.state.State.{State}
 use Rattle.mt_ram.specs.declared.state.State.TheVariants.{Uninit, Stopped, Running, Suspended, Full, Partial}
-use Rattle.mt_ram.specs.State.{RamTst, Setting, IsRam, set_of, spans_in, IsRunning, place_of}
-use Rattle.mt_ram.specs.Table.{MainFunction, cell, row, ram_table}
+use Rattle.mt_ram.specs.State.{RamTst, Setting, IsRam, set_of, spans_in, place_of}
+use Rattle.mt_ram.specs.Table.{MainFunction, cell, row}
 use Rattle.mt_ram.specs.Event.{job_of, or_start, next_place, passed, of_pass, ticking, work_in, inside_of, back_from}
 use Rattle.mt_ram.proofs.Moves.{at_boundary}
 use Rattle.mt_ram.proofs.Sets.{accepted_set, accepted_spans, hold_small, or_start-valid}

@@ -1,5 +1,5 @@
 -- A full or partial test, slice by slice.
-use Rattle.std.proofs.Common.{ℕ, suc, zero, ◌+◌, ◌-◌, ◌*◌, ◌<◌, ◌≤◌, ◌≡◌, Bool, true, false, cond, leb, ltb, List, [], ◌∷◌, ◌++◌, length, Option, Some, None, refl, sym, ap, ◌∙◌, subst, arith, inl, inr}
+use Rattle.std.proofs.Common.{◌+◌, ◌-◌, ◌*◌, ◌<◌, ◌≤◌, ◌≡◌, Bool, true, false, cond, leb, ltb, List, [], ◌∷◌, length, Option, Some, None, refl, sym, ap, ◌∙◌, subst, arith, inl, inr}
 use Rattle.std.specs.Prelude.{◌⊎◌, not, ◌&&◌}
 use Rattle.std.proofs.lemmas.Bool.Decides.{leb_tells}
 use Rattle.std.proofs.lemmas.Bool.{lt-ltb}
@@ -10,19 +10,16 @@ use Rattle.mt_window.specs.Serving.{Scene, scene}
 use Rattle.mt_window.specs.Slices.{Tests, sequenced, tested, slices, touches}
 use Rattle.mt_window.specs.Events.{ran, returned, touches_from}
 use Rattle.mt_seq.specs.declared.sequence.Verdict.{Verdict}
-use Rattle.mt_blocks.specs.declared.span.Span.{Span}
 use Rattle.mt_blocks.specs.declared.pass.Position.{Position}
 use Rattle.mt_blocks.specs.declared.config.ParamSet.{ParamSet}
-use Rattle.mt_blocks.specs.Slices.{Piece, span_len, span_at, ends_block, from_place, block_from, piece_at, next_of, AreSpans, IsValid}
-use Rattle.mt_blocks.specs.Laws.{word_count}
+use Rattle.mt_blocks.specs.Slices.{Piece, span_len, span_at, ends_block, piece_at, next_of, AreSpans, IsValid}
 use Rattle.mt_blocks.specs.Accepted.{spans_of}
 use Rattle.mt_blocks.proofs.Passes.{from_next, from_step, next_valid, block_step, block_end}
 use Rattle.mt_ram.specs.declared.state.State.{State}
-use Rattle.mt_ram.specs.State.{RamTst, set_of, spans_in, IsInside}
+use Rattle.mt_ram.specs.State.{RamTst, IsInside}
 use Rattle.mt_ram.specs.Table.{Service, Cell, Refuses, Goes, Answers, Rests, Ticks, Runs, row}
 use Rattle.mt_ram.specs.Event.{job_of, with_result, of_test, test_from, test_rest, next_in, work_in, inside_of, back_from, running}
 use Rattle.mt_ram.proofs.Moves.{at_boundary}
-use Rattle.mt_ram.proofs.Sets.{accepted_spans}
 use Rattle.mt_ram.proofs.Ticks.{OnSet, set_moved}
 use Rattle.mt_seq.proofs.Lengths.{holds_are_short}
 

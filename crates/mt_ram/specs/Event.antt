@@ -10,7 +10,6 @@ use Rattle.mt_blocks.specs.declared.config.ParamSet.{ParamSet}
 use Rattle.mt_blocks.specs.declared.pass.Position.{Position}
 use Rattle.mt_blocks.specs.Slices.{Piece, next_of, start, span_at, ends_block, from_place, block_from}
 use Rattle.mt_blocks.specs.Accepted.{block_at, spans_of}
-use Rattle.mt_ram.specs.declared.state.State.{State}
 use Rattle.mt_ram.specs.declared.state.State.TheVariants.{Running}
 use Rattle.mt_ram.specs.State.{RamTst, set_of, spans_in}
 use Rattle.mt_ram.specs.Results.{result_after, failed_after}

@@ -6,7 +6,7 @@ use Rattle.mt_window.specs.declared.reply.Value.TheVariants as value
 use Rattle.mt_window.specs.declared.reply.TestResult.TheVariants.{NotTested}
 use Rattle.mt_blocks.specs.Slices.{pieces, span_at}
 use Rattle.mt_ram.specs.declared.state.State.{State}
-use Rattle.mt_ram.specs.declared.state.State.TheVariants.{Uninit, Stopped, Running, Suspended, Full, Partial}
+use Rattle.mt_ram.specs.declared.state.State.TheVariants.{Uninit, Stopped, Suspended, Partial}
 use Rattle.mt_ram.specs.State.{RamTst, set_of, spans_in}
 use Rattle.mt_ram.specs.Table.{Service, Init, DeInit, Allow, Stop, Suspend, Resume, SelectAlgParams, ChangeNumberOfTestedCells, RunFullTest, RunPartialTest, MainFunction, GetTestResultPerBlock, GetTestResult, GetAlgParams, GetTestAlgorithm, GetNumberOfTestedCells, GetExecutionStatus, GetVersionInfo, Cell, Refuses, Goes, Answers, Runs, cell, next_in, after, handled, handler_next, selecting, selected, changing, testing, telling, ram_table}
 

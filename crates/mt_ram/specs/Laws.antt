@@ -8,7 +8,7 @@ use Rattle.mt_seq.specs.declared.sequence.Verdict.{Verdict}
 use Rattle.mt_blocks.specs.Slices.{Piece}
 use Rattle.mt_ram.specs.State.{RamTst, IsRunning, IsInside}
 use Rattle.mt_ram.specs.Table.{Service, after, ram_table}
-use Rattle.mt_ram.specs.Event.{ticking, full_test, partial_test}
+use Rattle.mt_ram.specs.Event.{partial_test}
 
 -- each wait of the event is 0, or below the length of the sequence that the request meets
 abbrev pub WaitsAreShortIn : Events RamTst Piece Verdict → Type 0

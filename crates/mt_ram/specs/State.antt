@@ -1,5 +1,5 @@
 -- RamTst as a contract sees it.
-use Rattle.std.specs.Prelude.{ℕ, ◌+◌, ◌<◌, ◌≤◌, ◌≡◌, Bool, List, length, Option, Some, None}
+use Rattle.std.specs.Prelude.{ℕ, ◌<◌, ◌≤◌, ◌≡◌, Bool, List, length, Some, None}
 use Rattle.mt_port.specs.declared.board.Shape.{Shape}
 use Rattle.mt_window.specs.declared.reply.TestResult.{TestResult}
 use Rattle.mt_blocks.specs.declared.span.Span.{Span}

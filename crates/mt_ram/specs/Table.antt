@@ -1,5 +1,5 @@
 -- The state table of RamTst.
-use Rattle.std.specs.Prelude.{ℕ, Bool, true, false, ◌&&◌, List, [], length, replicate, slice_index_or, Option, Some, None, if◌then◌else◌, nat_lt, nat_le}
+use Rattle.std.specs.Prelude.{ℕ, true, false, ◌&&◌, List, length, replicate, slice_index_or, Option, Some, None, if◌then◌else◌, nat_lt, nat_le}
 use Rattle.mt_port.specs.declared.request.HandlerCall.{HandlerCall}
 use Rattle.mt_port.specs.declared.request.HandlerCall.TheVariants as calls
 use Rattle.mt_plan.specs.declared.algorithm.Algorithm.{Algorithm}
@@ -14,7 +14,6 @@ use Rattle.mt_window.specs.declared.reply.ShownState.{ShownState}
 use Rattle.mt_window.specs.declared.reply.ShownState.TheVariants as shown
 use Rattle.mt_window.specs.declared.reply.AlgorithmName.{AlgorithmName}
 use Rattle.mt_window.specs.declared.reply.AlgorithmName.TheVariants as names
-use Rattle.mt_window.specs.declared.reply.TestResult.{TestResult}
 use Rattle.mt_window.specs.declared.reply.TestResult.TheVariants.{NotTested}
 use Rattle.mt_window.specs.Serving.{Table}
 use Rattle.mt_blocks.specs.declared.pass.Position.{Position}

@@ -1,9 +1,8 @@
-use Rattle.std.proofs.Common.{◌≡◌, ◌∙◌, ◌≤◌, ◌*◌, sym, ap, subst, arith, List, map}
+use Rattle.std.proofs.Common.{sym, subst, arith, List}
 use Rattle.mt_blocks.specs.declared.config.Block.{Block}
 use Rattle.mt_blocks.specs.Slices.{AreSpans}
 use Rattle.mt_blocks.specs.Accepted.{spans_of}
 use Rattle.mt_seq.specs.declared.sequence.Job.{Job}
-use Rattle.mt_seq.specs.Sequence.{sequence_hold}
 use Rattle.mt_plan.specs.Plan.{IsAccepted}
 use Rattle.mt_ram.proofs.Sets.{accepted_spans, hold_small}
 use Rattle.mt_ram.proofs.slice.run_sequence.Goals as goal

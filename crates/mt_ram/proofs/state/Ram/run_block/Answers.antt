@@ -1,22 +1,21 @@
-use Rattle.std.proofs.Common.{◌≡◌, ◌∙◌, ◌+◌, ◌*◌, ◌<◌, ◌≤◌, ℕ, Bool, List, true, false, cond, refl, sym, ap, subst, arith, length}
+use Rattle.std.proofs.Common.{◌≡◌, ◌∙◌, ◌<◌, Bool, List, false, cond, sym, ap, subst, arith, length}
 use Rattle.std.proofs.lemmas.List.{length-map}
 use Rattle.std.proofs.lemmas.Bool.{ltb-true}
-use Rattle.std.specs.Prelude.{nat_lt}
 use Rattle.mt_port.specs.Board.{Logs}
 use Rattle.mt_window.specs.declared.reply.Refusal.TheVariants as refusal
-use Rattle.mt_window.specs.Serving.{Scene, scene}
+use Rattle.mt_window.specs.Serving.{scene}
 use Rattle.mt_window.specs.Slices.{slices, touches}
 use Rattle.mt_blocks.specs.declared.config.Block.{Block}
 use Rattle.mt_blocks.specs.declared.pass.Position.{Position}
 use Rattle.mt_blocks.specs.Slices.{Piece, pieces, span_at, block_from}
 use Rattle.mt_blocks.specs.Laws.{word_count}
-use Rattle.mt_blocks.specs.Accepted.{IsAcceptedSet, spans_of}
+use Rattle.mt_blocks.specs.Accepted.{IsAcceptedSet}
 use Rattle.mt_blocks.proofs.Passes.{block_first}
 use Rattle.mt_blocks.proofs.Words.{word_count-block}
 use Rattle.mt_ram.specs.declared.state.State.TheVariants.{Partial}
 use Rattle.mt_ram.specs.State.{RamTst, set_of, spans_in}
-use Rattle.mt_ram.specs.Table.{RunPartialTest, Runs, Refuses, row}
-use Rattle.mt_ram.specs.Event.{of_test, test_from}
+use Rattle.mt_ram.specs.Table.{RunPartialTest, Runs, Refuses}
+use Rattle.mt_ram.specs.Event.{of_test}
 use Rattle.mt_ram.proofs.Sets.{accepted_spans}
 use Rattle.mt_ram.proofs.WholeTests.{runs, runs_tape}
 use Rattle.mt_ram.proofs.state.Ram.run_block.Goals as goal

@@ -1,14 +1,11 @@
 use Rattle.std.proofs.Common.{◌≡◌, ◌∙◌, ap, sym}
-use Rattle.mt_port.specs.Board.{Board}
 use Rattle.mt_window.specs.Serving.{Scene, scene, serve_due}
-use Rattle.mt_window.proofs.Events.{event-made, event-taped}
-use Rattle.mt_ram.specs.State.{RamTst, Setting}
-use Rattle.mt_ram.specs.Event.{ticking, full_test, partial_test}
-use Rattle.mt_ram.specs.Table.{MainFunction, RunFullTest, RunPartialTest, ram_table}
+use Rattle.mt_ram.specs.State.{RamTst}
+use Rattle.mt_ram.specs.Event.{full_test}
+use Rattle.mt_ram.specs.Table.{RunFullTest, ram_table}
 use Rattle.mt_window.specs.Events.{opened, event}
-use Rattle.mt_port.specs.declared.board.Shape.{Shape}
 use Rattle.mt_window.proofs.Events.{event-after, event-board}
-use Rattle.mt_ram.proofs.Settings.{pass_leaves, test_leaves}
+use Rattle.mt_ram.proofs.Settings.{test_leaves}
 use Rattle.mt_ram.proofs.Moves.{at_boundary}
 use Rattle.mt_ram.proofs.state.Ram.run_full.Goals as goal
 

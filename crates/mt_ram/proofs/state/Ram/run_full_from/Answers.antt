@@ -1,19 +1,18 @@
-use Rattle.std.proofs.Common.{◌≡◌, ◌∙◌, ◌+◌, ◌*◌, ◌<◌, ◌≤◌, ℕ, List, false, refl, sym, ap, subst, arith, length, drop}
+use Rattle.std.proofs.Common.{◌≡◌, ◌∙◌, List, false, ap, subst, arith}
 use Rattle.std.proofs.lemmas.List.{length-map}
-use Rattle.mt_port.specs.declared.board.Shape.{Shape}
-use Rattle.mt_port.specs.Board.{Board, Logs}
-use Rattle.mt_window.specs.Serving.{Scene, scene}
+use Rattle.mt_port.specs.Board.{Logs}
+use Rattle.mt_window.specs.Serving.{scene}
 use Rattle.mt_window.specs.Slices.{slices, touches}
 use Rattle.mt_blocks.specs.declared.config.Block.{Block}
 use Rattle.mt_blocks.specs.Slices.{Piece, pass, start, from_place}
 use Rattle.mt_blocks.specs.Laws.{word_count}
-use Rattle.mt_blocks.specs.Accepted.{IsAcceptedSet, spans_of}
+use Rattle.mt_blocks.specs.Accepted.{IsAcceptedSet}
 use Rattle.mt_blocks.proofs.Passes.{from_first}
 use Rattle.mt_blocks.proofs.Words.{word_count-pass}
 use Rattle.mt_ram.specs.declared.state.State.TheVariants.{Full, Stopped}
 use Rattle.mt_ram.specs.State.{RamTst, set_of, spans_in}
 use Rattle.mt_ram.specs.Table.{RunFullTest, cell}
-use Rattle.mt_ram.specs.Event.{of_test, test_from}
+use Rattle.mt_ram.specs.Event.{of_test}
 use Rattle.mt_ram.proofs.Sets.{accepted_spans, start_valid}
 use Rattle.mt_ram.proofs.WholeTests.{runs, runs_tape}
 use Rattle.mt_ram.proofs.state.Ram.run_full_from.Goals as goal

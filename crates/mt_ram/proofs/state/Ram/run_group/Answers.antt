@@ -1,19 +1,15 @@
-use Rattle.std.proofs.Common.{◌≡◌, ◌∙◌, ◌+◌, ◌*◌, ◌<◌, ◌++◌, ℕ, List, false, true, refl, sym, ap, subst, arith, drop, length, take}
-use Rattle.std.proofs.lemmas.List.{length-drop, length-take-le, drop_all}
-use Rattle.mt_window.specs.Serving.{scene, Scene}
-use Rattle.mt_window.specs.Slices.{slices, touches}
-use Rattle.mt_window.specs.Events.{ran, returned, entered}
-use Rattle.mt_window.proofs.Slices.{Reaches, Ended, reaches-start, reaches-step, reaches-stopped, reaches-end}
-use Rattle.mt_blocks.specs.Slices.{Piece, IsValid, from_place, piece_at}
+use Rattle.std.proofs.Common.{◌≡◌, ◌∙◌, ◌<◌, List, false, true, refl, sym, ap, subst, arith, drop, length}
+use Rattle.std.proofs.lemmas.List.{length-drop, length-take-le}
+use Rattle.mt_window.specs.Serving.{scene}
+use Rattle.mt_window.proofs.Slices.{Reaches, reaches-step, reaches-stopped}
+use Rattle.mt_blocks.specs.Slices.{Piece, from_place, piece_at}
 use Rattle.mt_blocks.specs.Groups.{group_len}
-use Rattle.mt_blocks.specs.Accepted.{spans_of}
-use Rattle.mt_blocks.specs.declared.config.ParamSet.{ParamSet}
 use Rattle.mt_ram.specs.declared.state.State.{State}
 use Rattle.mt_ram.specs.declared.state.State.TheVariants.{Running}
-use Rattle.mt_ram.specs.State.{RamTst, IsRam, IsPlace, set_of, spans_in, place_of}
-use Rattle.mt_ram.specs.Table.{MainFunction, row, cell, group_at}
-use Rattle.mt_ram.specs.Event.{of_pass, ticking, work_in}
-use Rattle.mt_ram.proofs.Ticks.{OnSet, OnPlace, on_set, tick_step, drop_one_more, group_len-le, take_taken, tick_inside, tick_back, ticked, ticked_tape}
+use Rattle.mt_ram.specs.State.{RamTst, set_of, spans_in, place_of}
+use Rattle.mt_ram.specs.Table.{MainFunction, row, cell}
+use Rattle.mt_ram.specs.Event.{of_pass, work_in}
+use Rattle.mt_ram.proofs.Ticks.{OnPlace, tick_step, drop_one_more, group_len-le, ticked, ticked_tape}
 use Rattle.mt_ram.proofs.state.Ram.run_group.Goals as goal
 
 pub loop-k-preserved : goal.loop-k-preserved

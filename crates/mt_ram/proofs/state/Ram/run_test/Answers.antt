@@ -1,12 +1,12 @@
-use Rattle.std.proofs.Common.{◌≡◌, ◌∙◌, ◌+◌, ◌*◌, ◌∷◌, ◌≤◌, ℕ, List, Option, Some, None, false, refl, sym, ap, subst, arith, length}
+use Rattle.std.proofs.Common.{◌≡◌, ◌∙◌, ◌∷◌, ◌≤◌, List, Option, Some, false, refl, sym, ap, subst, arith, length}
 use Rattle.mt_window.specs.Serving.{scene}
-use Rattle.mt_window.proofs.Slices.{Reaches, reaches-start, reaches-step, reaches-end}
+use Rattle.mt_window.proofs.Slices.{reaches-start, reaches-step}
 use Rattle.mt_blocks.specs.declared.pass.Position.{Position}
 use Rattle.mt_blocks.specs.declared.config.ParamSet.{ParamSet}
-use Rattle.mt_blocks.specs.Slices.{Piece, AreSpans, IsValid, piece_at}
+use Rattle.mt_blocks.specs.Slices.{Piece, IsValid, piece_at}
 use Rattle.mt_blocks.specs.Laws.{word_count}
 use Rattle.mt_blocks.specs.Accepted.{spans_of}
-use Rattle.mt_ram.specs.State.{RamTst, set_of, spans_in}
+use Rattle.mt_ram.specs.State.{set_of, spans_in}
 use Rattle.mt_ram.specs.Event.{of_test, test_from, test_rest, next_in}
 use Rattle.mt_ram.proofs.Sets.{accepted_spans}
 use Rattle.mt_ram.proofs.WholeTests.{test_split, next_in-valid, test_step}

@@ -1,5 +1,4 @@
-use Rattle.std.proofs.Common.{◌≡◌, ◌∙◌, sym, ap, subst}
-use Rattle.mt_port.specs.Board.{IsWithinLimits}
+use Rattle.std.proofs.Common.{sym, ap, subst}
 use Rattle.mt_blocks.specs.Accepted.{IsAcceptedSet}
 use Rattle.mt_ram.specs.State.{RamTst, set_of, IsRam}
 use Rattle.mt_ram.proofs.Sets.{accepted_set}
