@@ -1,9 +1,8 @@
 -- The rules on a text say the same as the accepted march.
-use Rattle.std.proofs.Common.{◌≡◌, ◌≢◌, ◌⊎◌, ℕ, zero, suc, ◌+◌, ◌<◌, ◌≤◌, Bool, true, false, cond, eqb, List, [], ◌∷◌, ◌++◌, length, Option, Some, None, refl, sym, ap, subst, ◌∙◌, inl, inr, codes, arith}
-use Rattle.std.specs.Prelude.{All, not, ◌&&◌, ◌||◌, ◌==◌, is_none, ◌↔◌}
+use Rattle.std.proofs.Common.{◌≡◌, ◌⊎◌, ℕ, ◌+◌, ◌<◌, ◌≤◌, Bool, true, false, cond, eqb, List, [], ◌∷◌, ◌++◌, length, Option, Some, None, refl, sym, ap, subst, ◌∙◌, inl, inr, arith}
+use Rattle.std.specs.Prelude.{All, not, ◌&&◌, ◌||◌, ◌==◌, is_none}
 use Rattle.std.specs.List.{AllByRecursion}
-use Rattle.std.proofs.lemmas.Bool.{cases_Bool, cases_eq, eq-eqb, ne_eqb}
-use Rattle.std.proofs.lemmas.Bool.Decides.{nat_tests}
+use Rattle.std.proofs.lemmas.Bool.{cases_eq, ne_eqb}
 use Rattle.std.proofs.lemmas.List.Elements.{All-nil, All-cons, All-tail}
 use Rattle.mt_march.specs.declared.march.Op.{Op}
 use Rattle.mt_march.specs.declared.march.Op.TheVariants.{R0, R1, W0, W1}
@@ -13,11 +12,11 @@ use Rattle.mt_march.specs.declared.march.MarchKind.{MarchKind}
 use Rattle.mt_march.specs.declared.march.Element.{Element}
 use Rattle.mt_march.specs.declared.march.MarchKind.TheVariants.{TooLong, ReadBeforeWrite, WrongExpectation, OneValueOnly}
 use Rattle.mt_march.specs.declared.march.MarchRefusal.{MarchRefusal}
-use Rattle.mt_march.specs.Grammar.{Token, order_token, op_token, more_ops, all_ops, element_tokens, more_elements, march_tokens, IsSome, IsMarch, Spells, SpellsMarch}
+use Rattle.mt_march.specs.Grammar.{Token, order_token, op_token, more_ops, all_ops, element_tokens, more_elements, march_tokens, IsSome, IsMarch, Spells}
 use Rattle.mt_march.specs.Rules.{first, is_order, is_letter, too_long, read_before_write, wrong_expectation, has_read, close_place}
-use Rattle.mt_march.specs.Value.{order_of, op_of, element, put, parts}
+use Rattle.mt_march.specs.Value.{order_of, op_of, element, parts}
 use Rattle.mt_march.specs.Reading.{or_else, one_value, rule_broken}
-use Rattle.mt_march.specs.Accepted.{operations, writes, is_one, begins_with_write, wrote, reads_agree, reads, IsAcceptedMarch}
+use Rattle.mt_march.specs.Accepted.{operations, writes, begins_with_write, wrote, reads_agree, reads, IsAcceptedMarch}
 use Rattle.mt_march.specs.Laws.{AcceptedBreaksNoRule, AcceptedIsMarch}
 use Rattle.mt_march.proofs.Places.{march_read}
 use Rattle.mt_march.proofs.Room.{or_else_none, elements_after, ops_after, room_more}

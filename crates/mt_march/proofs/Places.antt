@@ -1,5 +1,5 @@
 -- What is spelled is taken, with its march; and where a text that isn't spelled breaks.
-use Rattle.std.proofs.Common.{◌≡◌, ◌≢◌, ℕ, zero, suc, ◌+◌, ◌<◌, ◌≤◌, Bool, true, false, eqb, cond, List, [], ◌∷◌, ◌++◌, length, take, drop, Option, Some, None, refl, sym, ap, subst, ◌∙◌, ◌⊎◌, inl, inr, codes, arith, rules, add-one}
+use Rattle.std.proofs.Common.{◌≡◌, ◌≢◌, ℕ, zero, suc, ◌+◌, ◌<◌, ◌≤◌, List, [], ◌∷◌, ◌++◌, length, take, drop, Option, Some, None, refl, sym, ap, subst, ◌∙◌, ◌⊎◌, inl, inr, codes, arith}
 use Rattle.std.specs.List.{AllByRecursion}
 use Rattle.std.proofs.lemmas.List.{take-append-drop}
 use Rattle.std.specs.Option.{option_and_then}
@@ -10,10 +10,9 @@ use Rattle.mt_march.specs.declared.march.Order.TheVariants.{Up, Down, Either}
 use Rattle.mt_march.specs.declared.march.Element.{Element}
 use Rattle.mt_march.specs.declared.spelling.Expects.{Expects}
 use Rattle.mt_march.specs.declared.spelling.Expects.TheVariants.{Brace, Direction, Parenthesis, Letter, Digit, Comma, Semicolon, Nothing}
-use Rattle.mt_march.specs.Grammar.{Token, order_token, op_token, more_ops, all_ops, element_tokens, more_elements, march_tokens, IsSome, IsMarch, Spells, SpellsMarch, IsText, Begins, IsSpellingPlace}
+use Rattle.mt_march.specs.Grammar.{Token, order_token, op_token, more_ops, all_ops, element_tokens, more_elements, IsSome, Spells, SpellsMarch, IsText, Begins, IsSpellingPlace}
 use Rattle.mt_march.specs.Machine.{next, fault, fault_at_end, goes_on}
-use Rattle.mt_march.specs.Rules.{first}
-use Rattle.mt_march.specs.Value.{order_of, op_of, element, put, parts}
+use Rattle.mt_march.specs.Value.{element, parts}
 use Rattle.mt_march.proofs.Spelled.{run, run_from_fault, claim}
 
 abbrev AreSpaces : List ℕ → Type 0

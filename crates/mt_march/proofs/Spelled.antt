@@ -1,19 +1,16 @@
 -- The machine takes the texts of the grammar and no others.
-use Rattle.std.proofs.Common.{◌≡◌, ◌≢◌, ℕ, zero, suc, ◌+◌, ◌<◌, ◌≤◌, Bool, true, false, eqb, cond, List, [], ◌∷◌, ◌++◌, length, take, drop, Option, Some, None, refl, sym, ap, subst, ◌∙◌, ◌⊎◌, inl, inr, codes, arith, rules}
+use Rattle.std.proofs.Common.{◌≡◌, ℕ, ◌+◌, eqb, cond, List, [], ◌∷◌, ◌++◌, Option, Some, None, refl, sym, ap, subst, ◌⊎◌, inl, inr, codes}
 use Rattle.std.specs.List.{AllByRecursion}
 use Rattle.std.specs.Option.{option_and_then}
 use Rattle.std.proofs.lemmas.Bool.{cases_Bool, eqb-true}
 use Rattle.mt_march.specs.declared.march.Op.{Op}
-use Rattle.mt_march.specs.declared.march.Op.TheVariants.{R0, R1, W0, W1}
-use Rattle.mt_march.specs.declared.march.Order.{Order}
-use Rattle.mt_march.specs.declared.march.Order.TheVariants.{Up, Down, Either}
 use Rattle.mt_march.specs.declared.march.Element.{Element}
 use Rattle.mt_march.specs.declared.spelling.Expects.{Expects}
 use Rattle.mt_march.specs.declared.spelling.Expects.TheVariants.{Brace, Direction, Parenthesis, Letter, Digit, Comma, Semicolon, Nothing}
-use Rattle.mt_march.specs.Grammar.{Token, order_token, op_token, more_ops, all_ops, element_tokens, more_elements, march_tokens, IsSome, IsMarch, Spells, SpellsMarch, IsText, Begins}
+use Rattle.mt_march.specs.Grammar.{Token, op_token, more_ops, all_ops, element_tokens, more_elements, IsSome, IsMarch, Spells, SpellsMarch}
 use Rattle.mt_march.specs.Machine.{next, fault, fault_at_end, goes_on}
 use Rattle.mt_march.specs.Rules.{first}
-use Rattle.mt_march.specs.Value.{order_of, op_of, element, put, parts}
+use Rattle.mt_march.specs.Value.{op_of, parts}
 
 abbrev pub run : Expects → List ℕ → Option Expects
 run s [] = Some s

@@ -1,5 +1,5 @@
 -- A march as far as it is built.
-use Rattle.std.specs.Prelude.{ℕ, ◌+◌, List, [], ◌∷◌, ◌++◌, length, Option, Some, None}
+use Rattle.std.specs.Prelude.{ℕ, ◌+◌, List, ◌∷◌, ◌++◌, length, Option, Some, None}
 use Rattle.mt_march.specs.declared.march.Order.{Order}
 use Rattle.mt_march.specs.declared.march.Op.{Op}
 use Rattle.mt_march.specs.declared.march.Element.{Element}

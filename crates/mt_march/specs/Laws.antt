@@ -1,5 +1,5 @@
 -- Laws of marches and their texts.
-use Rattle.std.specs.Prelude.{◌≡◌, ◌≤◌, ◌↔◌, ℕ, List, length, None}
+use Rattle.std.specs.Prelude.{◌≡◌, ◌↔◌, ℕ, List, None}
 use Rattle.mt_march.specs.declared.march.Element.{Element}
 use Rattle.mt_march.specs.Grammar.{IsMarch, SpellsMarch}
 use Rattle.mt_march.specs.Reading.{rule_broken}

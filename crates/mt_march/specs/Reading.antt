@@ -1,5 +1,5 @@
 -- What refuses a march text.
-use Rattle.std.specs.Prelude.{◌≡◌, ◌≢◌, ◌⊎◌, ℕ, ◌||◌, ◌&&◌, not, List, Option, Some, None, if◌then◌else◌}
+use Rattle.std.specs.Prelude.{◌≡◌, ◌⊎◌, ℕ, ◌||◌, not, List, Option, Some, None, if◌then◌else◌}
 use Rattle.mt_march.specs.Grammar.{IsText, IsSpellingPlace}
 use Rattle.mt_march.specs.Rules.{too_long, read_before_write, wrong_expectation, has_read, close_place}
 use Rattle.mt_march.specs.declared.march.MarchKind.{MarchKind}

@@ -1,8 +1,8 @@
 -- How many steps there are.
-use Rattle.std.proofs.Common.{ℕ, ◌≡◌, ◌+◌, ◌*◌, ◌<◌, ◌≤◌, zero, suc, Bool, true, false, List, [], ◌∷◌, ◌++◌, map, length, take, get_or, length-append, append-nil, add-one, refl, arith, ap, sym, ◌∙◌}
+use Rattle.std.proofs.Common.{ℕ, ◌≡◌, ◌+◌, ◌*◌, ◌<◌, ◌≤◌, Bool, true, false, List, [], ◌∷◌, ◌++◌, map, length, take, get_or, length-append, append-nil, add-one, arith, ap, ◌∙◌}
 use Rattle.std.proofs.Math.Seq.{take-suc}
 use Rattle.std.proofs.lemmas.List.Concat.{flat_map-append}
-use Rattle.std.specs.Prelude.{All, not}
+use Rattle.std.specs.Prelude.{All}
 use Rattle.std.specs.List.{flat_map}
 use Rattle.std.proofs.lemmas.List.{length-map, length-reverse}
 use Rattle.std.proofs.lemmas.List.Elements.{All-tail}
@@ -15,8 +15,7 @@ use Rattle.mt_march.specs.declared.march.Element.{Element}
 use Rattle.mt_plan.specs.declared.algorithm.Algorithm.{Algorithm}
 use Rattle.mt_plan.specs.declared.algorithm.Algorithm.TheVariants.{Checkerboard, March as Marches, WalkPath, Galpat, TransparentGalpat}
 use Rattle.mt_plan.specs.declared.algorithm.Act.{Act}
-use Rattle.mt_plan.specs.declared.algorithm.Step.{Step}
-use Rattle.mt_plan.specs.Lists.{cells, step, is_odd, write_act, read_act, act_of, ops_on, in_order, element_on, march_on, walk_base, walk_round, galpat_base, galpat_round, checkerboard_on}
+use Rattle.mt_plan.specs.Lists.{cells, step, write_act, act_of, ops_on, in_order, element_on, march_on, walk_base, walk_round, galpat_base, galpat_round, checkerboard_on}
 use Rattle.mt_plan.specs.Plan.{IsAccepted, steps_of, step_count}
 use Rattle.mt_plan.proofs.Items.{length-cells, length-pieces, length-even}
 use Rattle.mt_plan.proofs.Bases.{length-writes, length-walk_base, length-galpat_base}

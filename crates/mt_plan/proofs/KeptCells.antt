@@ -1,5 +1,5 @@
 -- A march on some of the cells.
-use Rattle.std.proofs.Common.{ℕ, ◌≡◌, ◌+◌, ◌<◌, ◌≤◌, zero, suc, Bool, true, false, List, [], ◌∷◌, ◌++◌, map, refl, arith, ap, sym, ◌∙◌, inl, inr, ⊎_elim, ◌⊎◌}
+use Rattle.std.proofs.Common.{ℕ, ◌≡◌, ◌<◌, ◌≤◌, zero, suc, Bool, true, false, List, [], ◌∷◌, ◌++◌, map, refl, arith, ap, sym, ◌∙◌, inl, inr, ⊎_elim, ◌⊎◌}
 use mathlib.Core.Path.{ap₂}
 use mathlib.Core.List.{reverse, reverse-cons, reverse-append, append-nil}
 use Rattle.std.specs.Prelude.{◌==◌, ◌||◌, if◌then◌else◌}
@@ -13,7 +13,7 @@ use Rattle.mt_march.specs.declared.march.Op.{Op}
 use Rattle.mt_march.specs.declared.march.Element.{Element}
 use Rattle.mt_plan.specs.declared.algorithm.Step.{Step}
 use Rattle.mt_plan.specs.Lists.{step, act_of, cells, in_order, element_on, march_on}
-use Rattle.mt_plan.specs.Kept.{MarchOnKeptCells, KeptCells, KeepsCells}
+use Rattle.mt_plan.specs.Kept.{MarchOnKeptCells, KeptCells}
 
 -- steps with each cell in the place of those that pk gives for it, which are none or one
 abbrev pub renamed : (ℕ → List ℕ) → List Step → List Step

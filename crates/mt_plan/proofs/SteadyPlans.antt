@@ -13,12 +13,11 @@ use Rattle.mt_march.specs.declared.march.Op.{Op}
 use Rattle.mt_march.specs.declared.march.Op.TheVariants.{R0, R1, W0, W1}
 use Rattle.mt_march.specs.declared.march.Element.{Element}
 use Rattle.mt_march.specs.Accepted.{wrote, reads_agree, operations}
-use Rattle.mt_plan.specs.declared.algorithm.Algorithm.{Algorithm}
 use Rattle.mt_plan.specs.declared.algorithm.Algorithm.TheVariants.{Checkerboard, March as Marches, WalkPath, Galpat, TransparentGalpat}
 use Rattle.mt_plan.specs.declared.algorithm.Act.{Act}
 use Rattle.mt_plan.specs.declared.algorithm.Step.{Step}
 use Rattle.mt_plan.specs.Lists.{act_of, ops_on, in_order, element_on, march_on, cells, step, others, is_odd, write_act, read_act, walk_base, walk_round, walk_on, galpat_base, galpat_round, galpat_on, checkerboard_on}
-use Rattle.mt_plan.specs.Plan.{IsAccepted, steps_of}
+use Rattle.mt_plan.specs.Plan.{steps_of}
 use Rattle.mt_plan.specs.Steady.{steady, IsSteady, IsInside, IsSteadyOn, PlansAreSteady}
 
 -- From one last write to a cell the steps are steady there, and leave another.

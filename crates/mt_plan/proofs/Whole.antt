@@ -1,5 +1,5 @@
 -- The list of an algorithm is its parts and rows.
-use Rattle.std.proofs.Common.{ℕ, ◌≡◌, ◌+◌, ◌-◌, ◌<◌, ◌≤◌, zero, suc, Bool, true, false, List, [], ◌∷◌, ◌++◌, map, length, reverse, refl, arith, ap, sym, ◌∙◌, Option, Some, None, append-nil, append_assoc, add-one, take, get_or}
+use Rattle.std.proofs.Common.{ℕ, ◌≡◌, ◌+◌, ◌-◌, ◌≤◌, zero, suc, Bool, true, false, List, [], ◌∷◌, ◌++◌, map, length, reverse, refl, arith, ap, sym, ◌∙◌, Some, append-nil, append_assoc, add-one, take, get_or}
 use Rattle.std.specs.Prelude.{slice_get}
 use Rattle.std.specs.List.{flat_map}
 use Rattle.std.proofs.lemmas.List.{reverse-append, take_all}
@@ -9,14 +9,13 @@ use Rattle.std.proofs.lemmas.Option.{slice_get-get_or}
 use Rattle.std.proofs.Math.Seq.{take-suc}
 use Rattle.mt_march.specs.declared.march.Order.{Order}
 use Rattle.mt_march.specs.declared.march.Order.TheVariants.{Up, Down, Either}
-use Rattle.mt_march.specs.declared.march.Op.{Op}
 use Rattle.mt_march.specs.declared.march.Element.{Element}
 use Rattle.mt_plan.specs.declared.algorithm.Algorithm.{Algorithm}
 use Rattle.mt_plan.specs.declared.algorithm.Algorithm.TheVariants.{Checkerboard, March as Marches, WalkPath, Galpat, TransparentGalpat}
 use Rattle.mt_plan.specs.declared.algorithm.Step.{Step}
 use Rattle.mt_plan.specs.Lists.{cells, step, is_odd, write_act, ops_on, in_order, element_on, march_on, walk_base, galpat_base}
 use Rattle.mt_plan.specs.Plan.{steps_of}
-use Rattle.mt_plan.specs.Rows.{part_count, row_count, quarter_act, cell_at, element_row, round_row, row_of, rows_of, parts_of}
+use Rattle.mt_plan.specs.Rows.{part_count, quarter_act, cell_at, element_row, round_row, rows_of, parts_of}
 use Rattle.mt_plan.proofs.Items.{cells_front, one_more}
 
 -- ---- checkerboard

@@ -1,6 +1,5 @@
 -- The steps of an algorithm on the cells of a slice, and how many they are.
 use Rattle.std.specs.Prelude.{ℕ, ◌+◌, ◌*◌, List, length}
-use Rattle.mt_march.specs.declared.march.March.{March}
 use Rattle.mt_march.specs.Accepted.{IsAcceptedMarch, operations}
 use Rattle.mt_plan.specs.declared.algorithm.Algorithm.{Algorithm}
 use Rattle.mt_plan.specs.declared.algorithm.Algorithm.TheVariants.{Checkerboard, March as Marches, WalkPath, Galpat, TransparentGalpat}

@@ -1,5 +1,5 @@
 -- Plans whose reads expect what was written.
-use Rattle.std.specs.Prelude.{ℕ, ◌<◌, All, ◌==◌, ◌≡◌, ◌&&◌, Bool, true, false, if◌then◌else◌, List, [], ◌∷◌, Option, Some, None, length}
+use Rattle.std.specs.Prelude.{ℕ, ◌<◌, All, ◌==◌, ◌≡◌, ◌&&◌, Bool, true, if◌then◌else◌, List, [], ◌∷◌, Option, Some, None, length}
 use Rattle.mt_march.specs.Accepted.{wrote}
 use Rattle.mt_plan.specs.declared.algorithm.Algorithm.{Algorithm}
 use Rattle.mt_plan.specs.declared.algorithm.Step.{Step}

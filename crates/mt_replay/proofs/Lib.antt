@@ -3,3 +3,6 @@ pub mod Lines
 pub mod Texts
 pub mod Turns
 pub mod Runs
+pub mod Heads
+pub mod Groups
+pub mod Jobs

@@ -15,7 +15,7 @@ use Rattle.mt_replay.specs.declared.run.Turn.TheVariants as turn
 use Rattle.mt_replay.specs.declared.status.Status.{Status}
 use Rattle.mt_replay.specs.declared.status.Status.TheVariants as status
 use Rattle.mt_replay.specs.Input.{Ending, Finished, Failed, Cut, cut, led, begun, HasNoFeed, BeginsTooLong, TakesLine, BreaksOff}
-use Rattle.mt_replay.specs.Machine.{Machine}
+use Rattle.mt_replay.specs.Ram.{Machine}
 use Rattle.mt_replay.specs.Outcome.{Run, preceded, done, refused, read_fault, read_fault_text, judged, last_judged, run_lines, run_script}
 use Rattle.mt_replay.specs.Run.{Change, Answered, Concludes, Refused, CutOff, Fronts, LineGives, EndGives, Crosses, Breaking, Goes, Ends, Breaks, Stops, TurnGives, ScriptGives}
 use Rattle.std.specs.Io.KnownBytes.{prepend_known}
@@ -41,10 +41,10 @@ whole_turn (Ok turn.More) c m m' n text a b held held' tape tape' p q = record {
   written = q.written;
   taped = q.taped;
   run = WhereTold-map a b p (λ x y h. record {
-      front = text ++ 10 ∷ [];
-      taken = h.0 ∙ sym (append_assoc text (10 ∷ []) y);
-      run = λ ending rest. ap (λ (l : List ℕ). run_script ending c m n (cut l)) (append_assoc text (10 ∷ []) rest) ∙ ap (run_script ending c m n) (cut-line text rest h.1) ∙ q.run (λ after. run_script ending c after (n + 1) (cut rest));
-    });
+    front = text ++ 10 ∷ [];
+    taken = h.0 ∙ sym (append_assoc text (10 ∷ []) y);
+    run = λ ending rest. ap (λ (l : List ℕ). run_script ending c m n (cut l)) (append_assoc text (10 ∷ []) rest) ∙ ap (run_script ending c m n) (cut-line text rest h.1) ∙ q.run (λ after. run_script ending c after (n + 1) (cut rest));
+  });
 }
 whole_turn (Ok (turn.Ended how)) c m m' n text a b held held' tape tape' p q = record {
   plain = q.plain;
@@ -93,15 +93,15 @@ last-is c m n (byte ∷ bytes) h = refl
 pub last_leaves : (c : Config) (m : Machine) (n : ℕ) (text : List ℕ) (a b : Option (List ℕ)) → WhereTold a b (TakesLine line.Last text)
     → WhereTold a b (Leaves c m n (judged c m n text (λ after. done after n)))
 last_leaves c m n text a b p = WhereTold-map a b p (λ x y h. record {
-      run = ap (λ (bytes : List ℕ). run_script Finished c m n (cut bytes)) h.0 ∙ ap (run_script Finished c m n) (cut-rest text h.1) ∙ last-is c m n text h.2;
-      all = λ e. h.3;
-    })
+  run = ap (λ (bytes : List ℕ). run_script Finished c m n (cut bytes)) h.0 ∙ ap (run_script Finished c m n) (cut-rest text h.1) ∙ last-is c m n text h.2;
+  all = λ e. h.3;
+})
 
 pub end_leaves : (c : Config) (m : Machine) (n : ℕ) (text : List ℕ) (a b : Option (List ℕ)) → WhereTold a b (TakesLine line.End text) → WhereTold a b (Leaves c m n (done m (n - 1)))
 end_leaves c m n text a b p = WhereTold-map a b p (λ x y h. record {
-      run = ap (λ (bytes : List ℕ). run_script Finished c m n (cut bytes)) h.0;
-      all = λ e. h.1;
-    })
+  run = ap (λ (bytes : List ℕ). run_script Finished c m n (cut bytes)) h.0;
+  all = λ e. h.1;
+})
 
 judged-long : (c : Config) (m : Machine) (n : ℕ) (text : List ℕ) (follow : Machine → Run) → n ≤ 1000000 → 1024 < length text → judged c m n text follow ≡ refused m n 10 1025
 judged-long c m n text follow few long =
@@ -158,10 +158,10 @@ Goes-goes c m m' m'' n n' n'' a b d held held' held'' tape tape' tape'' p q = re
   written = Appends-trans held held' held'' p.text q.text p.written q.written;
   taped = Logs-append tape tape' tape'' p.touches q.touches p.taped q.taped;
   run = WhereTold-then a b d p.run q.run (λ x y z e f. record {
-      front = e.front ++ f.front;
-      taken = e.taken ∙ ap (λ (l : List ℕ). e.front ++ l) f.taken ∙ sym (append_assoc e.front f.front z);
-      run = λ ending rest. ap (λ (l : List ℕ). run_script ending c m n (cut l)) (append_assoc e.front f.front rest) ∙ e.run ending (f.front ++ rest) ∙ ap (preceded p.text p.touches) (f.run ending rest) ∙ preceded-preceded p.text q.text p.touches q.touches _;
-    });
+    front = e.front ++ f.front;
+    taken = e.taken ∙ ap (λ (l : List ℕ). e.front ++ l) f.taken ∙ sym (append_assoc e.front f.front z);
+    run = λ ending rest. ap (λ (l : List ℕ). run_script ending c m n (cut l)) (append_assoc e.front f.front rest) ∙ e.run ending (f.front ++ rest) ∙ ap (preceded p.text p.touches) (f.run ending rest) ∙ preceded-preceded p.text q.text p.touches q.touches _;
+  });
 }
 
 crossed : (c : Config) (m m' : Machine) (n n' : ℕ) (text : List ℕ) (touches : List Touch) (before after : List ℕ) → Crosses c m m' n n' text touches before after
@@ -188,11 +188,11 @@ Goes-breaks c m m' n n' board a b d held held' held'' tape tape' tape'' p q = re
   written = Appends-trans held held' held'' p.text q.text p.written q.written;
   taped = Logs-append tape tape' tape'' p.touches q.touches p.taped q.taped;
   run = WhereTold-then a b d p.run q.run (λ x y z e f. record {
-      front = e.front ++ f.front;
-      taken = e.taken ∙ ap (λ (l : List ℕ). e.front ++ l) f.taken ∙ sym (append_assoc e.front f.front z);
-      run = e.run Failed f.front ∙ ap (preceded p.text p.touches) f.run
-      ∙ ap (λ (t : List ℕ). let o : Run = record { text = t; touches = p.touches ++ q.touches; status = status.ReadFault; board = board } in o) (sym (append_assoc p.text q.text read_fault_text));
-    });
+    front = e.front ++ f.front;
+    taken = e.taken ∙ ap (λ (l : List ℕ). e.front ++ l) f.taken ∙ sym (append_assoc e.front f.front z);
+    run = e.run Failed f.front ∙ ap (preceded p.text p.touches) f.run
+        ∙ ap (λ (t : List ℕ). let o : Run = record { text = t; touches = p.touches ++ q.touches; status = status.ReadFault; board = board } in o) (sym (append_assoc p.text q.text read_fault_text));
+  });
 }
 
 pub Goes-stops : (c : Config) (m m' : Machine) (n n' : ℕ) (a b d held held' held'' : Option (List ℕ)) (tape tape' tape'' : Option (List Touch))
@@ -214,9 +214,10 @@ past-is c m (first ∷ more) rest some = refl
 cut-some : (bytes : List ℕ) → 0 < length bytes → (cut bytes).lines ≡ [] → (cut bytes).rest ≢ []
 cut-some [] h e f = omega arith
 cut-some (byte ∷ bytes) h e f = elim (feed_or_not byte) [
-    inl is ↦ (let lines : (cut (byte ∷ bytes)).lines ≡ [] ∷ (cut bytes).lines = ap (λ (b : Bool). (cond b (led [] (cut bytes)) (begun byte (cut bytes).lines (cut bytes).rest)).lines) is.0 in cc)
-    | inr is ↦ (let all : cut (byte ∷ bytes) ≡ begun byte (cut bytes).lines (cut bytes).rest = ap (λ (b : Bool). cond b (led [] (cut bytes)) (begun byte (cut bytes).lines (cut bytes).rest)) is.0 in
-      some_begun byte (cut bytes).lines (cut bytes).rest (sym (ap (λ (k : Cut). k.lines) all) ∙ e) (sym (ap (λ (k : Cut). k.rest) all) ∙ f)) ]
+  | inl is ↦ (let lines : (cut (byte ∷ bytes)).lines ≡ [] ∷ (cut bytes).lines = ap (λ (b : Bool). (cond b (led [] (cut bytes)) (begun byte (cut bytes).lines (cut bytes).rest)).lines) is.0 in cc)
+  | inr is ↦ (let all : cut (byte ∷ bytes) ≡ begun byte (cut bytes).lines (cut bytes).rest = ap (λ (b : Bool). cond b (led [] (cut bytes)) (begun byte (cut bytes).lines (cut bytes).rest)) is.0 in
+      some_begun byte (cut bytes).lines (cut bytes).rest (sym (ap (λ (k : Cut). k.lines) all) ∙ e) (sym (ap (λ (k : Cut). k.rest) all) ∙ f))
+]
   where
     some_begun : (byte : ℕ) (lines : List (List ℕ)) (rest : List ℕ) → (begun byte lines rest).lines ≡ [] → (begun byte lines rest).rest ≡ [] → ⊥
     some_begun byte [] rest e f = cc

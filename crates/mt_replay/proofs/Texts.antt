@@ -1,7 +1,8 @@
 -- Texts that are written one after another.
-use Rattle.std.proofs.Common.{ℕ, ◌+◌, ◌≡◌, List, [], ◌∷◌, ◌++◌, take, length, Option, Some, None, refl, sym, ap, ◌∙◌, subst, append-nil, append_assoc}
+use Rattle.std.proofs.Common.{ℕ, ◌+◌, ◌≡◌, List, [], ◌∷◌, ◌++◌, take, length, Option, Some, None, Result, Ok, Err, refl, sym, ap, ◌∙◌, subst, append-nil, append_assoc}
 use Rattle.std.proofs.Math.Seq.{take-append-add}
 use Rattle.std.specs.Io.KnownBytes.{Appends}
+use Rattle.std.specs.Result.{OnErr}
 use Rattle.mt_port.specs.Streams.{AppendsFront, WhereTold}
 use Rattle.mt_port.specs.declared.board.Touch.{Touch}
 use Rattle.mt_port.specs.Board.{Logs}
@@ -38,3 +39,8 @@ pub WhereTold-map : (a b : Option (List ℕ)) {P Q : List ℕ → List ℕ → T
 WhereTold-map None b p f = tt
 WhereTold-map (Some x) None p f = absurd p
 WhereTold-map (Some x) (Some y) p f = f x y p
+
+-- what holds anyway holds of an error
+pub OnErr-any : {T E X : Type 0} (r : Result T E) → X → OnErr r X
+OnErr-any (Ok x) h = tt
+OnErr-any (Err e) h = h

@@ -16,7 +16,8 @@ use Rattle.mt_replay.specs.declared.run.Turn.{Turn}
 use Rattle.mt_replay.specs.declared.run.Turn.TheVariants as turn
 use Rattle.mt_replay.specs.declared.status.Status.{Status}
 use Rattle.mt_replay.specs.declared.status.Status.TheVariants as status
-use Rattle.mt_replay.specs.Machine.{Machine, Step, step}
+use Rattle.mt_replay.specs.Machine.{Step, step}
+use Rattle.mt_replay.specs.Ram.{Machine}
 use Rattle.mt_replay.specs.Outcome.{Run, preceded, stepped, answered, judged, done}
 use Rattle.mt_replay.specs.Events.{Steps, Stays}
 use Rattle.mt_replay.specs.Run.{Change, Judging, IsPlain, Answered, Concludes, Refused, CutOff, Fronts, LineGives, EndGives}

@@ -98,6 +98,16 @@ impl Input {
         self.next += count;
     }
 
+    /// Takes the next byte of those that are held.
+    pub fn take_byte(&mut self) -> u8
+        requires { 0 < length self.old }
+        ensures { self.old ≡ result ∷ self.new }
+    {
+        let byte = self.held()[0];
+        self.skip(1);
+        byte
+    }
+
     // Moves the held bytes of the line to its text, and takes its line feed.
     fn take_piece(&mut self, text: &mut LineText) -> Piece
         ensures { TakesPiece result text.old.items self.old text.new.items self.new }

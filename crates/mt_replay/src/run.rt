@@ -5,7 +5,8 @@ ghost use Rattle.std.specs.Io.KnownBytes.{prepend_known, Appends};
 ghost use Rattle.mt_port.specs.Causes.{HasCause};
 ghost use Rattle.mt_port.specs.Streams.{AppendsFront, WhereTold};
 ghost use Rattle.mt_text.specs.Accepted.{IsAccepted as IsAcceptedLine};
-ghost use Rattle.mt_replay.specs.Machine.{Machine, IsReady, step};
+ghost use Rattle.mt_replay.specs.Machine.{IsReady, step};
+ghost use Rattle.mt_replay.specs.Ram.{Machine};
 ghost use Rattle.mt_replay.specs.Outcome.{done_text, refused_text, kind_number, done, refused, stepped, judged};
 ghost use Rattle.mt_replay.specs.Events.{AnswerGives};
 ghost use Rattle.mt_replay.specs.Run.{Caused, SinkCaused, LineGives, EndGives, TurnGives, ScriptGives};
@@ -216,7 +217,11 @@ fn run_line<S: Source, K: Sink, B: Bench>(
 }
 
 // What comes behind the last line that may be: the end, or a line too many.
-fn run_past<S: Source, K: Sink>(input: &mut Input, source: &mut S, sink: &mut K) -> Result<Turn, Fault>
+fn run_past<S: Source, K: Sink>(
+    input: &mut Input,
+    source: &mut S,
+    sink: &mut K,
+) -> Result<Turn, Fault>
     ensures gives { (c : _) (m : Machine) (told : _) → TurnGives result c m m 1000001
         (record { left = prepend_known input.old (S.left source.old); left' = prepend_known input.new (S.left source.new); held = K.held sink.old; held' = K.held sink.new; tape = told; tape' = told }) }
     ensures ended { result ≢ Ok Turn.More }

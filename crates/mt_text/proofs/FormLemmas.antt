@@ -141,6 +141,11 @@ pub passed_over : {X : Type 0} (shape : Shape) (end : ℕ) (w v : List ℕ) (f :
 unfolding read
 passed_over shape end w v f k b more t ts e g d = rw (e, g, d) refl
 
+pub passed_over_barred : {X : Type 0} (shape : Shape) (end : ℕ) (v w : List ℕ) (k : LineKind) (b f : Form X) (more : Form X) (t : Token) (ts : List Token) → bytes_eq t.bytes v ≡ false → bytes_eq t.bytes w ≡ false → is_done more ≡ false
+    → read shape end (barred v k b (row w f more)) (t ∷ ts) ≡ read shape end more (t ∷ ts)
+unfolding read
+passed_over_barred shape end v w k b f more t ts e g d = rw (e, g, d) refl
+
 -- reading leaves no more tokens than there were
 pub read_shorter : {X : Type 0} (shape : Shape) (end : ℕ) (F : Form X) (ts : List Token) (x : X) (rest : List Token) → read shape end F ts ≡ Ok (x, rest) → length rest ≤ length ts
 unfolding read

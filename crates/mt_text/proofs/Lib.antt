@@ -9,3 +9,12 @@ pub mod Sound
 pub mod Parts
 pub mod HexLemmas
 pub mod PieceLemmas
+pub mod Pieces
+pub mod Leading
+pub mod Values
+pub mod Spellings
+pub mod RequestPaths
+pub mod RoundTrip
+pub mod RuleOne
+pub mod SpellingLaws
+pub mod TraceLemmas

@@ -181,6 +181,7 @@ spelled_at shape true ts l h = subst (IsAccepted shape) (sym h) (without_request
 spelled_at shape false ts l h = ended_at shape h.last l (led shape (done Start) h.last ts h.leads tt) h.ends
 
 pub spelled_is_accepted : (shape : Shape) (text : List ℕ) (l : Line) → Spells shape text l → IsAccepted shape l
+unfolding Spells
 spelled_is_accepted shape text l h = spelled_at shape (is_comment (tokens 1 text)) (tokens 1 text) l h
 
 pub ok_accepted : (shape : Shape) (text : List ℕ) (r : Result Line LineRefusal) → line_of shape text ≡ r → IfOk r (λ l. IsAccepted shape l)

@@ -76,7 +76,7 @@ run_err shape end f (t ∷ ts) e h =
     ]) refl h
 
 pub spells_from : (shape : Shape) (text : List ℕ) (l : Line) → line_of shape text ≡ Ok l → Spells shape text l
-unfolding line_of
+unfolding line_of Spells
 spells_from shape text l h =
     (elim (is_comment (tokens 1 text)) as (λ b. cond b (Ok (line Nothing [])) (run shape (1 + length text) (done Start) (tokens 1 text)) ≡ Ok l → SpellsAt b shape (tokens 1 text) l) [
       | true ↦ λ k. cc
@@ -84,7 +84,7 @@ spells_from shape text l h =
     ]) h
 
 pub refuses_from : (shape : Shape) (text : List ℕ) (e : LineRefusal) → line_of shape text ≡ Err e → Refuses shape text e
-unfolding line_of
+unfolding line_of Refuses
 refuses_from shape text e h =
     (elim (is_comment (tokens 1 text)) as (λ b. cond b (Ok (line Nothing [])) (run shape (1 + length text) (done Start) (tokens 1 text)) ≡ Err e → (b ≡ false) × (FirstBroken shape (tokens 1 text) e ⊎ EndsEarly shape (tokens 1 text) (1 + length text) e)) [
       | true ↦ λ k. absurd cc
@@ -99,7 +99,7 @@ refuses_from shape text e h =
 
 -- what is spelled comes
 pub comes_from_spells : (shape : Shape) (text : List ℕ) (l : Line) → Spells shape text l → line_of shape text ≡ Ok l
-unfolding line_of
+unfolding line_of Spells
 comes_from_spells shape text l h =
     (elim (is_comment (tokens 1 text)) as (λ b. SpellsAt b shape (tokens 1 text) l → cond b (Ok (line Nothing [])) (run shape (1 + length text) (done Start) (tokens 1 text)) ≡ Ok l) [
       | true ↦ λ k. cc
@@ -129,8 +129,8 @@ pub err_refuses : (shape : Shape) (text : List ℕ) (r : Result Line LineRefusal
 err_refuses shape text (Ok l) h = tt
 err_refuses shape text (Err e) h = refuses_from shape text e h
 
-comes_from_refuses : (shape : Shape) (text : List ℕ) (e : LineRefusal) → Refuses shape text e → line_of shape text ≡ Err e
-unfolding line_of
+pub comes_from_refuses : (shape : Shape) (text : List ℕ) (e : LineRefusal) → Refuses shape text e → line_of shape text ≡ Err e
+unfolding line_of Refuses
 comes_from_refuses shape text e h =
     rw h.0 (elim h.1 [
       | inl b ↦

@@ -24,6 +24,7 @@ use Rattle.mt_text.specs.declared.line.Line.{Line}
 abbrev pub IsNumber : ℕ → Type 0
 IsNumber n = n < 2 ^ 32
 
+-- the number of a call of RamTst has 32 bits
 abbrev pub IsRamCall : RamCall → Type 0
 IsRamCall (GetTestResultPerBlock n) = IsNumber n
 IsRamCall (SelectAlgParams n) = IsNumber n
@@ -31,6 +32,7 @@ IsRamCall (ChangeNumberOfTestedCells n) = IsNumber n
 IsRamCall (RunPartialTest n) = IsNumber n
 IsRamCall call = Unit {0}
 
+-- the number of a call of FlsTst has 32 bits
 abbrev pub IsFlsCall : FlsCall → Type 0
 IsFlsCall (StartFgnd n) = IsNumber n
 IsFlsCall call = Unit {0}
@@ -48,6 +50,7 @@ IsSoundEvent shape Heal = Unit {0}
 IsSoundEvent shape (Burn addr word) = (addr < shape.flash) × Fits shape.width word
 IsSoundEvent shape (Flip spot) = IsSpot shape.width shape.flash spot
 
+-- the number of a handler's call has 32 bits
 abbrev pub IsHandlerCall : HandlerCall → Type 0
 IsHandlerCall (RamGetTestResultPerBlock n) = IsNumber n
 IsHandlerCall call = Unit {0}

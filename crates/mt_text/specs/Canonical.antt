@@ -49,6 +49,7 @@ ram_parts ram.RunFullTest = (ram_service.RunFullTest, None)
 ram_parts (ram.RunPartialTest n) = (ram_service.RunPartialTest, Some n)
 ram_parts ram.GetVersionInfo = (ram_service.GetVersionInfo, None)
 
+-- the same of FlsTst
 abbrev pub fls_parts : FlsCall → FlsService × Option ℕ
 fls_parts fls.Init = (fls_service.Init, None)
 fls_parts fls.DeInit = (fls_service.DeInit, None)
@@ -62,16 +63,20 @@ fls_parts fls.GetTestResultFgnd = (fls_service.GetTestResultFgnd, None)
 fls_parts fls.GetErrorDetails = (fls_service.GetErrorDetails, None)
 fls_parts fls.GetVersionInfo = (fls_service.GetVersionInfo, None)
 
+-- a number, where there is one
 abbrev pub argument : Option ℕ → List (List ℕ)
 argument None = []
 argument (Some n) = decimal n ∷ []
 
+-- a call of RamTst behind the word `ram`
 abbrev pub ram_words : RamCall → List (List ℕ)
 ram_words call = ram_name (ram_parts call).0 ∷ argument (ram_parts call).1
 
+-- a call of FlsTst behind the word `fls`
 abbrev pub fls_words : FlsCall → List (List ℕ)
 fls_words call = fls_name (fls_parts call).0 ∷ argument (fls_parts call).1
 
+-- an operation of the application
 abbrev pub app_words : Width → AppOp → List (List ℕ)
 app_words width (Read a) = codes "r" ∷ decimal a ∷ []
 app_words width (Write a x) = codes "w" ∷ decimal a ∷ word_text width x ∷ []
@@ -83,18 +88,22 @@ app_words width (Flash a) = codes "f" ∷ decimal a ∷ []
 abbrev pub spot_text : Spot → List ℕ
 spot_text s = decimal s.word ++ codes "." ++ decimal s.bit
 
+-- a bit
 abbrev pub bit_text : Bool → List ℕ
 bit_text true = codes "1"
 bit_text false = codes "0"
 
+-- a rise or a fall
 abbrev pub direction_text : Bool → List ℕ
 direction_text true = codes "up"
 direction_text false = codes "down"
 
+-- how two cells are wired
 abbrev pub wiring_text : Bool → List ℕ
 wiring_text true = codes "and"
 wiring_text false = codes "or"
 
+-- a fault behind the word `inject`
 abbrev pub fault_words : Width → Fault → List (List ℕ)
 fault_words width (StuckAt vic value) = codes "sa" ∷ spot_text vic ∷ bit_text value ∷ []
 fault_words width (CannotRise vic) = codes "tf-up" ∷ spot_text vic ∷ []
@@ -106,6 +115,7 @@ fault_words width (NoCell addr seen) = codes "af-none" ∷ decimal addr ∷ word
 fault_words width (Also addr other wired_and) = codes "af-also" ∷ decimal addr ∷ decimal other ∷ wiring_text wired_and ∷ []
 fault_words width (Instead addr other) = codes "af-instead" ∷ decimal addr ∷ decimal other ∷ []
 
+-- an event; one that does nothing has no words
 abbrev pub event_words : Width → Event → List (List ℕ)
 event_words width Nothing = []
 event_words width (Ram call) = codes "ram" ∷ ram_words call
@@ -120,6 +130,7 @@ event_words width (Flip spot) = codes "flip" ∷ spot_text spot ∷ []
 
 -- ---- the words of a request
 
+-- a handler's call
 abbrev pub call_words : HandlerCall → List (List ℕ)
 call_words handler.RamAllow = codes "ram" ∷ codes "Allow" ∷ []
 call_words handler.RamStop = codes "ram" ∷ codes "Stop" ∷ []
@@ -135,6 +146,7 @@ call_words handler.FlsGetCurrentState = codes "fls" ∷ codes "GetCurrentState" 
 call_words handler.FlsGetTestResultBgnd = codes "fls" ∷ codes "GetTestResultBgnd" ∷ []
 call_words handler.FlsGetTestResultFgnd = codes "fls" ∷ codes "GetTestResultFgnd" ∷ []
 
+-- an operation of a handler
 abbrev pub op_words : Width → HandlerOp → List (List ℕ)
 op_words width (op.App o) = app_words width o
 op_words width (op.Call call) = call_words call
@@ -146,17 +158,21 @@ pub record Piece : Type 0 where
   pub spaced : Bool
   pub bytes : List ℕ
 
+-- a token with a space before it, or without
 abbrev pub shown : Bool → List ℕ → List ℕ
 shown true bytes = 32 ∷ bytes
 shown false bytes = bytes
 
+-- the bytes of pieces, one after another
 abbrev pub text_of : List Piece → List ℕ
 text_of [] = []
 text_of (p ∷ ps) = shown p.spaced p.bytes ++ text_of ps
 
+-- a piece
 abbrev pub piece : Bool → List ℕ → Piece
 piece spaced bytes = record { spaced = spaced; bytes = bytes }
 
+-- words with a space before each
 abbrev pub spaced_words : List (List ℕ) → List Piece
 spaced_words [] = []
 spaced_words (w ∷ ws) = piece true w ∷ spaced_words ws
@@ -176,9 +192,11 @@ abbrev pub handler_pieces : Width → List HandlerOp → List Piece
 handler_pieces width [] = []
 handler_pieces width (o ∷ ops) = piece false (codes "[") ∷ words false (op_words width o) ++ further_ops width ops
 
+-- a request: its mark and offset in one word, and its handler
 abbrev pub request_pieces : Width → Request → List Piece
 request_pieces width request = piece true (64 ∷ decimal request.offset) ∷ handler_pieces width request.ops.items
 
+-- requests, one after another
 abbrev pub requests_pieces : Width → List Request → List Piece
 requests_pieces width [] = []
 requests_pieces width (r ∷ rs) = request_pieces width r ++ requests_pieces width rs

@@ -10,6 +10,7 @@ use Rattle.mt_text.specs.declared.names.FlsService.TheVariants.{Init as IsInit, 
 use Rattle.mt_port.specs.declared.request.HandlerCall.{HandlerCall}
 use Rattle.mt_port.specs.declared.request.HandlerCall.TheVariants.{FlsSuspend, FlsResume, FlsAbort, FlsGetCurrentState, FlsGetTestResultBgnd, FlsGetTestResultFgnd}
 
+-- how each service is spelled
 abbrev pub fls_name : FlsService → List ℕ
 fls_name IsInit = codes "Init"
 fls_name IsDeInit = codes "DeInit"
@@ -23,6 +24,7 @@ fls_name IsGetTestResultFgnd = codes "GetTestResultFgnd"
 fls_name IsGetErrorDetails = codes "GetErrorDetails"
 fls_name IsGetVersionInfo = codes "GetVersionInfo"
 
+-- all of them
 abbrev pub fls_services : List FlsService
 fls_services = IsInit ∷ IsDeInit ∷ IsStartFgnd ∷ IsAbort ∷ IsSuspend ∷ IsResume ∷ IsGetCurrentState ∷ IsGetTestResultBgnd ∷ IsGetTestResultFgnd ∷ IsGetErrorDetails ∷ IsGetVersionInfo ∷ []
 
@@ -40,6 +42,7 @@ fls_entry IsGetTestResultFgnd = Opens (done GetTestResultFgnd)
 fls_entry IsGetErrorDetails = Opens (done GetErrorDetails)
 fls_entry IsGetVersionInfo = Opens (done GetVersionInfo)
 
+-- what may stand behind the word `fls` on a line
 unfoldable pub fls_call : Form FlsCall
 fls_call = rows fls_name fls_entry fls_services
 
@@ -57,5 +60,6 @@ fls_handler_entry IsGetTestResultFgnd = Opens (done FlsGetTestResultFgnd)
 fls_handler_entry IsGetErrorDetails = Breaks NotInHandler bare
 fls_handler_entry IsGetVersionInfo = Breaks NotInHandler bare
 
+-- what may stand behind the word `fls` in a handler
 unfoldable pub fls_handler_call : Form HandlerCall
 fls_handler_call = rows fls_name fls_handler_entry fls_services

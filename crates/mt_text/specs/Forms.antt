@@ -39,6 +39,7 @@ pub data Form (X : Type 0) : Type 0 where
 abbrev pub broken_if : {A : Type 0} → Bool → LineKind → Result A LineKind → Result A LineKind
 broken_if test kind later = if test then Err kind else later
 
+-- rule 2 is broken where nothing is spelled; else what the later rules say
 abbrev pub spelled : {A B : Type 0} → Option A → (A → Result B LineKind) → Result B LineKind
 spelled None test = Err Number
 spelled (Some x) test = test x
@@ -65,19 +66,23 @@ begins_mark (b ∷ bs) = b == 64
 abbrev pub value_at : Shape → Slot → List ℕ → Result ℕ LineKind
 value_at shape slot bytes = if begins_word bytes then word_at shape slot bytes else Err Spelling
 
+-- a word in the place of a request: its offset, or the least rule that it breaks
 abbrev pub mark_at : ℕ → ℕ → List ℕ → Result ℕ LineKind
 mark_at last count bytes =
     if begins_mark bytes then spelled (number_of (drop 1 bytes)) (λ n. broken_if (nat_lt n last) OffsetsFall (broken_if (nat_le 16 count) TooManyRequests (Ok n)))
     else Err Spelling
 
+-- a spot that is spelled: itself, or the least later rule that it breaks, its word before its bit
 abbrev pub spot_word_at : Shape → SpotSlot → Spot → Result Spot LineKind
 spot_word_at shape RamSpot s = broken_if (not (nat_lt s.word shape.ram)) Address (broken_if (not (nat_lt s.bit (width_bits shape.width))) FaultRefused (Ok s))
 spot_word_at shape (OtherSpot a) s = broken_if (not (nat_lt s.word shape.ram)) Address (broken_if (not (nat_lt s.bit (width_bits shape.width))) FaultRefused (broken_if (s.word == a) FaultRefused (Ok s)))
 spot_word_at shape FlashSpot s = broken_if (not (nat_lt s.word shape.flash)) Address (broken_if (not (nat_lt s.bit (width_bits shape.width))) FaultRefused (Ok s))
 
+-- a word in the place of a spot: the spot, or the least rule that it breaks
 abbrev pub spot_at : Shape → SpotSlot → List ℕ → Result Spot LineKind
 spot_at shape slot bytes = if begins_word bytes then spelled (spot_of bytes) (λ p. spot_word_at shape slot (record { word = p.0; bit = p.1 })) else Err Spelling
 
+-- the value, mapped
 abbrev pub mapped_ok : {A B : Type 0} → (A → B) → Result A LineKind → Result B LineKind
 mapped_ok f (Ok x) = Ok (f x)
 mapped_ok f (Err kind) = Err kind
@@ -94,14 +99,17 @@ step shape (mark last count form) bytes = mapped_ok form (mark_at last count byt
 
 -- ---- whole forms
 
+-- the first refusal, or what comes of the value
 infixl 10 ◌>>=◌
 abbrev pub ◌>>=◌ : {A B : Type 0} → Result A LineRefusal → (A → Result B LineRefusal) → Result B LineRefusal
 (Ok x) >>= f = f x
 (Err e) >>= f = Err e
 
+-- a rule is broken at a place
 abbrev pub refused : {A : Type 0} → LineKind → ℕ → Result A LineRefusal
 refused kind place = Err (record { kind = kind; place = place })
 
+-- the same, with the place of the token
 abbrev pub at_place : {A : Type 0} → ℕ → Result A LineKind → Result A LineRefusal
 at_place place (Ok x) = Ok x
 at_place place (Err kind) = refused kind place
@@ -111,6 +119,7 @@ abbrev pub next : ℕ → List Token → Result (Token × List Token) LineRefusa
 next end [] = refused Spelling end
 next end (t ∷ ts) = Ok (t, ts)
 
+-- the form has no further token
 abbrev pub is_done : {X : Type 0} → Form X → Bool
 is_done (done x) = true
 is_done _ = false
@@ -151,6 +160,7 @@ pub data Entry (X : Type 0) : Type 0 where
   Opens : Form X → Entry X
   Breaks : LineKind → Form X → Entry X
 
+-- the row of a word, before the others
 abbrev pub entered : {X : Type 0} → List ℕ → Entry X → Form X → Form X
 entered word (Opens form) more = row word form more
 entered word (Breaks kind form) more = barred word kind form more

@@ -8,3 +8,4 @@ pub mod Accepted
 pub mod Digits
 pub mod Trace
 pub mod Canonical
+pub mod Kinds

@@ -24,6 +24,7 @@ use Rattle.mt_text.specs.declared.line.Line.{Line}
 use Rattle.mt_port.specs.declared.request.Module.{Module}
 use Rattle.mt_port.specs.declared.request.Module.TheVariants.{RamTst, FlsTst}
 
+-- an operation of the application
 unfoldable pub app_op : Form AppOp
 app_op =
     row (codes "r") (value Addr (λ a. done (Read a)))
@@ -33,9 +34,11 @@ app_op =
     (row (codes "f") (value FlashAddr (λ a. done (FlashRead a)))
     none))))
 
+-- the two directions of a change
 abbrev pub direction : {X : Type 0} → (Bool → Form X) → Form X
 direction form = row (codes "up") (form true) (row (codes "down") (form false) none)
 
+-- what may stand behind the word `inject`; a second address or spot is none of the first word
 unfoldable pub fault : Form Fault
 fault =
     row (codes "sa") (spot RamSpot (λ v. value Bit (λ b. done (StuckAt v (b == 1)))))
@@ -49,6 +52,7 @@ fault =
     (row (codes "af-instead") (value Addr (λ a. value (OtherAddr a) (λ b. done (Instead a b))))
     none))))))))
 
+-- what may stand behind the word `tick`
 abbrev pub tick : Form Event
 tick = row (codes "ram") (done TickRam) (row (codes "fls") (done TickFls) none)
 
@@ -72,6 +76,7 @@ abbrev pub all_barred : {X : Type 0} → LineKind → Form X → Form X
 all_barred kind (row word form more) = barred word kind form (all_barred kind more)
 all_barred kind form = form
 
+-- the first words of operations
 abbrev pub is_op_word : List ℕ → Bool
 is_op_word bytes = (((((bytes_eq bytes (codes "ram") || bytes_eq bytes (codes "fls")) || bytes_eq bytes (codes "r")) || bytes_eq bytes (codes "w")) || bytes_eq bytes (codes "add")) || bytes_eq bytes (codes "copy")) || bytes_eq bytes (codes "f")
 
@@ -79,14 +84,17 @@ is_op_word bytes = (((((bytes_eq bytes (codes "ram") || bytes_eq bytes (codes "f
 unfoldable pub op_form : Module → Bool → Form HandlerOp
 op_form m true = all_barred TooManyOps (row (codes "ram") (mapped Call ram_handler_call) (row (codes "fls") (mapped Call fls_handler_call) (mapped AppIn app_op)))
 op_form RamTst false = row (codes "ram") (mapped Call ram_handler_call) (barred (codes "fls") NotInHandler (mapped Call fls_handler_call) (mapped AppIn app_op))
-op_form FlsTst false = row (codes "fls") (mapped Call fls_handler_call) (barred (codes "ram") NotInHandler (mapped Call ram_handler_call) (mapped AppIn app_op))
+op_form FlsTst false = barred (codes "ram") NotInHandler (mapped Call ram_handler_call) (row (codes "fls") (mapped Call fls_handler_call) (mapped AppIn app_op))
 
+-- a request
 abbrev pub request : ℕ → List HandlerOp → Request
 request offset ops = record { offset = offset; ops = record { items = ops } }
 
+-- a line
 abbrev pub line : Event → List Request → Line
 line ev rs = record { event = ev; requests = record { items = rs } }
 
+-- the offset of the last request, or 0
 abbrev pub last_offset : List Request → ℕ
 last_offset [] = 0
 last_offset (r ∷ []) = r.offset
@@ -112,16 +120,20 @@ pub data Part : Type 0 where
   Operation : Module → Event → List Request → ℕ → List HandlerOp → Part
   Separator : Module → Event → List Request → ℕ → List HandlerOp → Part
 
+-- requests may follow where the event has a module that runs
 abbrev pub followed : Event → Option Module → Part
 followed ev None = Ended ev
 followed ev (Some m) = Requests m ev []
 
+-- what may follow an event
 abbrev pub follows : Event → Part
 follows ev = followed ev (running_module ev)
 
+-- a further request
 abbrev pub request_form : Module → Event → List Request → Form Part
 request_form m ev rs = mark (last_offset rs) (length rs) (λ n. done (Handler m ev rs n))
 
+-- a further operation of a handler
 abbrev pub operation_form : Module → Event → List Request → ℕ → List HandlerOp → Form Part
 operation_form m ev rs n ops = mapped (λ op. Separator m ev rs n (ops ++ op ∷ [])) (op_form m (nat_le 8 (length ops)))
 
@@ -144,10 +156,12 @@ whole (Requests m ev rs) = Some (line ev rs)
 whole (Handler m ev rs n) = Some (line ev (rs ++ request n [] ∷ []))
 whole _ = None
 
+-- the same of a form
 abbrev pub whole_at : Form Part → Option Line
 whole_at (done p) = whole p
 whole_at _ = None
 
+-- a form, or what may stand at the part that it leads to
 abbrev pub settled : Form Part → Form Part
 settled (done p) = part_form p
 settled none = none
@@ -157,6 +171,7 @@ settled (value s g) = value s g
 settled (spot s g) = spot s g
 settled (mark l c g) = mark l c g
 
+-- the line, or Spelling at the end of a line that ends too early
 abbrev pub ends_with : ℕ → Option Line → Result Line LineRefusal
 ends_with end None = refused Spelling end
 ends_with end (Some l) = Ok l
@@ -168,10 +183,12 @@ run shape end f (t ∷ ts) = at_place t.place (step shape (settled f) t.bytes) >
 
 -- ---- what a text is
 
+-- the word begins with `#`
 abbrev pub begins_comment : List ℕ → Bool
 begins_comment [] = false
 begins_comment (b ∷ bs) = b == 35
 
+-- the first token does
 abbrev pub is_comment : List Token → Bool
 is_comment [] = false
 is_comment (t ∷ ts) = begins_comment t.bytes
@@ -212,7 +229,8 @@ abbrev pub SpellsAt : Bool → Shape → List Token → Line → Type 0
 SpellsAt true shape ts l = l ≡ line Nothing []
 SpellsAt false shape ts l = SpellsTokens shape ts l
 
-abbrev pub Spells : Shape → List ℕ → Line → Type 0
+-- the text spells the line
+unfoldable pub Spells : Shape → List ℕ → Line → Type 0
 Spells shape text l = SpellsAt (is_comment (tokens 1 text)) shape (tokens 1 text) l
 
 -- the first token that breaks a rule, with the least rule that it breaks
@@ -233,5 +251,6 @@ pub record EndsEarly (shape : Shape) (ts : List Token) (end : ℕ) (e : LineRefu
   pub goes_on : whole_at form ≡ None
   pub refusal : e ≡ record { kind = Spelling; place = end }
 
-abbrev pub Refuses : Shape → List ℕ → LineRefusal → Type 0
+-- the text is refused: by the first token that breaks a rule, or for ending too early
+unfoldable pub Refuses : Shape → List ℕ → LineRefusal → Type 0
 Refuses shape text e = (is_comment (tokens 1 text) ≡ false) × (FirstBroken shape (tokens 1 text) e ⊎ EndsEarly shape (tokens 1 text) (1 + length text) e)

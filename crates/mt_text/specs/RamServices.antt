@@ -9,6 +9,7 @@ use Rattle.mt_text.specs.declared.names.RamService.TheVariants.{Init as IsInit, 
 use Rattle.mt_port.specs.declared.request.HandlerCall.{HandlerCall}
 use Rattle.mt_port.specs.declared.request.HandlerCall.TheVariants.{RamAllow, RamStop, RamSuspend, RamResume, RamGetExecutionStatus, RamGetTestResult, RamGetTestResultPerBlock}
 
+-- how each service is spelled
 abbrev pub ram_name : RamService → List ℕ
 ram_name IsInit = codes "Init"
 ram_name IsDeInit = codes "DeInit"
@@ -28,6 +29,7 @@ ram_name IsRunFullTest = codes "RunFullTest"
 ram_name IsRunPartialTest = codes "RunPartialTest"
 ram_name IsGetVersionInfo = codes "GetVersionInfo"
 
+-- all of them
 abbrev pub ram_services : List RamService
 ram_services = IsInit ∷ IsDeInit ∷ IsStop ∷ IsAllow ∷ IsSuspend ∷ IsResume ∷ IsGetExecutionStatus ∷ IsGetTestResult ∷ IsGetTestResultPerBlock ∷ IsGetAlgParams ∷ IsGetTestAlgorithm ∷ IsGetNumberOfTestedCells ∷ IsSelectAlgParams ∷ IsChangeNumberOfTestedCells ∷ IsRunFullTest ∷ IsRunPartialTest ∷ IsGetVersionInfo ∷ []
 
@@ -51,13 +53,15 @@ ram_entry IsRunFullTest = Opens (done RunFullTest)
 ram_entry IsRunPartialTest = Opens (value Num (λ n. done (RunPartialTest n)))
 ram_entry IsGetVersionInfo = Opens (done GetVersionInfo)
 
+-- what may stand behind the word `ram` on a line
 unfoldable pub ram_call : Form RamCall
 ram_call = rows ram_name ram_entry ram_services
 
--- what follows a service that no handler calls: nothing, or a number
+-- nothing more, behind a service that no handler calls
 abbrev pub bare : Form HandlerCall
 bare = done RamAllow
 
+-- a number, and then nothing
 abbrev pub numbered : Form HandlerCall
 numbered = value Num (λ n. bare)
 
@@ -81,5 +85,6 @@ ram_handler_entry IsRunFullTest = Breaks NotInHandler bare
 ram_handler_entry IsRunPartialTest = Breaks NotInHandler numbered
 ram_handler_entry IsGetVersionInfo = Breaks NotInHandler bare
 
+-- what may stand behind the word `ram` in a handler
 unfoldable pub ram_handler_call : Form HandlerCall
 ram_handler_call = rows ram_name ram_handler_entry ram_services

@@ -20,6 +20,7 @@ use Rattle.mt_window.specs.declared.reply.Detail.{Detail}
 use Rattle.mt_window.specs.declared.reply.Detail.TheVariants as detail
 use Rattle.mt_text.specs.Digits.{word_text}
 
+-- the states
 abbrev pub state_name : ShownState → List ℕ
 state_name state.Uninit = codes "UNINIT"
 state_name state.Stopped = codes "STOPPED"
@@ -28,12 +29,14 @@ state_name state.Suspended = codes "SUSPENDED"
 state_name state.Init = codes "INIT"
 state_name state.Aborted = codes "ABORTED"
 
+-- the results
 abbrev pub result_name : TestResult → List ℕ
 result_name result.NotTested = codes "NOT_TESTED"
 result_name result.Ok = codes "OK"
 result_name result.NotOk = codes "NOT_OK"
 result_name result.Undefined = codes "UNDEFINED"
 
+-- the algorithms, as the configuration spells them
 abbrev pub algorithm_name : AlgorithmName → List ℕ
 algorithm_name algorithm.Checkerboard = codes "checkerboard"
 algorithm_name algorithm.March = codes "march"
@@ -41,6 +44,7 @@ algorithm_name algorithm.WalkPath = codes "walk-path"
 algorithm_name algorithm.Galpat = codes "galpat"
 algorithm_name algorithm.TransparentGalpat = codes "transparent-galpat"
 
+-- the refusals
 abbrev pub refusal_text : Refusal → List ℕ
 refusal_text refusal.Uninit = codes "refused 1"
 refusal_text refusal.Status = codes "refused 2"
@@ -51,11 +55,13 @@ abbrev pub identifier_text : Option ℕ → List ℕ
 identifier_text None = codes "none"
 identifier_text (Some id) = decimal id
 
+-- where FlsTst last found a difference
 abbrev pub detail_text : Detail → List ℕ
 detail_text detail.Nothing = codes "none"
 detail_text (detail.Bgnd block addr) = codes "bgnd " ++ decimal block ++ codes " " ++ decimal addr
 detail_text (detail.Fgnd block addr) = codes "fgnd " ++ decimal block ++ codes " " ++ decimal addr
 
+-- a value
 abbrev pub value_text : Width → Value → List ℕ
 value_text width (value.Word w) = word_text width w
 value_text width (value.Number n) = decimal n
@@ -66,6 +72,7 @@ value_text width (value.Interval id r) = identifier_text id ++ codes " " ++ resu
 value_text width (value.Details d) = detail_text d
 value_text width value.Version = codes "1.0.0"
 
+-- a reply
 abbrev pub reply_text : Width → Reply → List ℕ
 reply_text width reply.Done = codes "ok"
 reply_text width (reply.Ran n) = codes "ran " ++ decimal n

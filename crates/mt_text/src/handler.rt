@@ -79,10 +79,10 @@ fn fls_handler_op(
     ensures value { Gives result (left cursor.new) (branch shape (end_of cursor.old) (op_form FlsTst false) (token_view word.now) (left cursor.old)) }
     ensures end { end_of cursor.new ≡ end_of cursor.old }
 {
-    if is(word, b"fls") {
-        fls_op(shape, cursor)
-    } else if is(word, b"ram") {
+    if is(word, b"ram") {
         refused(LineKind::NotInHandler, word.place)
+    } else if is(word, b"fls") {
+        fls_op(shape, cursor)
     } else {
         application(word, shape, cursor)
     }

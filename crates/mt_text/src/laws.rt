@@ -1,11 +1,28 @@
 //! What holds of all texts.
 
-ghost use Rattle.std.specs.Prelude.{◌≡◌, ℕ, List};
-ghost use Rattle.mt_text.specs.Lines.{Spells, Refuses};
-ghost use Rattle.mt_text.specs.Accepted.{IsAccepted};
+ghost use Rattle.std.specs.Prelude.{◌≡◌, ◌<◌, ◌≤◌, ◌^◌, ◌↔◌, ◌∷◌, ◌++◌, [], ℕ, List, true, Some, Ok, Err, decimal, length, map};
+ghost use Rattle.std.specs.List.{list_all};
+ghost use Rattle.mt_word.specs.Word.{Fits};
+ghost use Rattle.mt_word.specs.declared.Width.{Width};
+ghost use Rattle.mt_port.specs.Board.{IsWithinLimits};
 ghost use Rattle.mt_port.specs.declared.board.Shape.{Shape};
+ghost use Rattle.mt_window.specs.declared.log.Entry.{Entry};
+ghost use Rattle.mt_text.specs.Accepted.{IsAccepted};
+ghost use Rattle.mt_text.specs.Canonical.{canonical};
+ghost use Rattle.mt_text.specs.Digits.{word_text};
+ghost use Rattle.mt_text.specs.Kinds.{IsOfKinds, bytes_of};
+ghost use Rattle.mt_text.specs.Lines.{line_of, Spells, SpellsTokens, Refuses, FirstBroken};
+ghost use Rattle.mt_text.specs.Tokens.{Token, tokens, number_of, is_hex, hex, hex_of, upper};
+ghost use Rattle.mt_text.specs.Trace.{entry_text, entries_text};
 ghost use Rattle.mt_text.specs.declared.line.Line.{Line};
+ghost use Rattle.mt_text.specs.declared.line.LineKind.TheVariants.{Spelling};
 ghost use Rattle.mt_text.specs.declared.line.LineRefusal.{LineRefusal};
+
+/// Reading, as a function of the text, gives the line that the text spells, and else its refusal.
+pub fn reading_is_spelling()
+    ensures ok { (shape : Shape) (text : List ℕ) (line : Line) → (line_of shape text ≡ Ok line) ↔ Spells shape text line }
+    ensures err { (shape : Shape) (text : List ℕ) (e : LineRefusal) → (line_of shape text ≡ Err e) ↔ Refuses shape text e }
+{}
 
 /// A text spells one line, and one that spells a line is refused for nothing.
 pub fn one_line()
@@ -16,4 +33,42 @@ pub fn one_line()
 /// A text spells accepted lines alone.
 pub fn spelled_lines_are_accepted()
     ensures { (shape : Shape) (text : List ℕ) (line : Line) → Spells shape text line → IsAccepted shape line }
+{}
+
+/// The canonical text of an accepted line spells that line.
+pub fn canonical_lines_spell_themselves()
+    ensures { (shape : Shape) (line : Line) → IsWithinLimits shape → IsAccepted shape line
+        → Spells shape (canonical shape.width line) line }
+{}
+
+/// A refusal of a token is `Spelling` just where no line has, after the tokens before it, a token of its kind. The
+/// tokens of a line are of its kinds.
+pub fn spelling_is_a_token_of_no_line()
+    ensures refused { (shape : Shape) (text : List ℕ) (e : LineRefusal) (b : FirstBroken shape (tokens 1 text) e)
+        → (e.kind ≡ Spelling) ↔ ((rest : List (List ℕ)) → ¬ IsOfKinds (bytes_of b.before ++ b.token.bytes ∷ rest)) }
+    ensures spelled { (shape : Shape) (tokens : List Token) (line : Line) → SpellsTokens shape tokens line → IsOfKinds (bytes_of tokens) }
+{}
+
+/// A number has one spelling, its decimal digits.
+pub fn numbers_have_one_spelling()
+    ensures { (bytes : List ℕ) (n : ℕ) → (number_of bytes ≡ Some n) ↔ ((bytes ≡ decimal n) × (n < 2 ^ 32)) }
+{}
+
+/// A word is spelled by 1 to 16 hexadecimal digits of either case, and the digits that a writer gives spell it.
+pub fn words_have_hexadecimal_digits()
+    ensures spelled { (bytes : List ℕ) (word : ℕ) → hex_of bytes ≡ Some word
+        → (0 < length bytes) × (length bytes ≤ 16) × (list_all is_hex bytes ≡ true) × (word ≡ hex 0 bytes) }
+    ensures each { (bytes : List ℕ) → 0 < length bytes → length bytes ≤ 16 → list_all is_hex bytes ≡ true
+        → hex_of bytes ≡ Some (hex 0 bytes) }
+    ensures either_case { (bytes : List ℕ) → hex_of (map upper bytes) ≡ hex_of bytes }
+    ensures written { (width : Width) (word : ℕ) → Fits width word → hex_of (word_text width word) ≡ Some word }
+{}
+
+/// The trace of some entries is that of the first of them and then that of the others.
+pub fn trace_lines_stand_in_order()
+    ensures none { (width : Width) (number : ℕ) → entries_text width number [] ≡ [] }
+    ensures one { (width : Width) (number : ℕ) (entry : Entry)
+        → entries_text width number (entry ∷ []) ≡ entry_text width number entry }
+    ensures more { (width : Width) (number : ℕ) (first second : List Entry)
+        → entries_text width number (first ++ second) ≡ entries_text width number first ++ entries_text width number second }
 {}

@@ -17,8 +17,12 @@ mod text;
 mod token;
 mod value;
 
-pub use laws::{one_line, spelled_lines_are_accepted};
 pub use entry::{entry_text, write_entry};
+pub use laws::{
+    canonical_lines_spell_themselves, numbers_have_one_spelling, one_line, reading_is_spelling,
+    spelled_lines_are_accepted, spelling_is_a_token_of_no_line, trace_lines_stand_in_order,
+    words_have_hexadecimal_digits,
+};
 pub use line::{Event, FlsCall, Line, LineKind, LineRefusal, RamCall};
 pub use line_text::write_line;
 pub use reading::read_line;

@@ -114,14 +114,14 @@ fn line_of(text: &[u8], shape: Shape) -> Result<Line, LineRefusal>
     }
 }
 
-/// Reads a line, or answers the least rule that its first wrong token breaks, with its place.
+/// Reads a line without its line feed, or answers the least rule that its first wrong token breaks, with its place.
+/// Each byte but the space, the brackets and the semicolon belongs to a word.
 pub fn read_line(text: &[u8], shape: Shape) -> Result<Line, LineRefusal>
     requires { length text.now ≤ 1024 }
+    ensures value { line_of shape text.now ≡ result }
     ensures ok { IfOk result (λ line. Spells shape text.now line) }
     ensures err { IfErr result (λ refusal. Refuses shape text.now refusal) }
     ensures accepted { IfOk result (λ line. IsAccepted shape line) }
-    // The reading as a function of the text.
-    ensures value { line_of shape text.now ≡ result }
 {
     line_of(text, shape)
 }

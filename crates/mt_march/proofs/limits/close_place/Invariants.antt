@@ -1,4 +1,4 @@
-use Rattle.std.proofs.Common.{◌≡◌, ◌+◌, ◌<◌, ◌≤◌, drop, length}
+use Rattle.std.proofs.Common.{◌≡◌, ◌+◌, drop}
 use Rattle.mt_march.specs.Rules.{close_place}
 use Rattle.mt_march.proofs.limits.close_place.Given as goal
 

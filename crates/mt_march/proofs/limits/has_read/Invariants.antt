@@ -1,4 +1,4 @@
-use Rattle.std.proofs.Common.{◌≡◌, ◌+◌, ◌<◌, ◌≤◌, drop, length}
+use Rattle.std.proofs.Common.{◌≡◌, drop}
 use Rattle.mt_march.specs.Rules.{has_read}
 use Rattle.mt_march.proofs.limits.has_read.Given as goal
 

@@ -1,4 +1,4 @@
-use Rattle.std.proofs.Common.{◌≡◌, ◌+◌, ◌<◌, ◌≤◌, drop, length}
+use Rattle.std.proofs.Common.{◌≡◌, ◌+◌, drop}
 use Rattle.mt_march.specs.Rules.{read_before_write}
 use Rattle.mt_march.proofs.limits.read_before_write.Given as goal
 

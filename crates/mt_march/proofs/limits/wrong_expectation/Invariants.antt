@@ -1,4 +1,4 @@
-use Rattle.std.proofs.Common.{◌≡◌, ◌+◌, ◌<◌, ◌≤◌, drop, length}
+use Rattle.std.proofs.Common.{◌≡◌, ◌+◌, drop}
 use Rattle.mt_march.specs.Rules.{wrong_expectation}
 use Rattle.mt_march.proofs.limits.wrong_expectation.Given as goal
 

@@ -1,4 +1,4 @@
-use Rattle.std.proofs.Common.{◌≡◌, ◌∙◌, ◌+◌, ◌∷◌, drop, get_or, length, arith}
+use Rattle.std.proofs.Common.{◌≡◌, ◌∙◌, ◌+◌, ◌∷◌, drop, get_or, length}
 use Rattle.mt_march.specs.Building.{element_count}
 use Rattle.std.proofs.lemmas.List.{drop_more}
 use Rattle.mt_march.specs.Value.{parts}

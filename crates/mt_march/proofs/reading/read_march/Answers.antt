@@ -1,4 +1,4 @@
-use Rattle.std.proofs.Common.{◌≡◌, None, refl, inl, inr, sym, subst, ◌∙◌}
+use Rattle.std.proofs.Common.{refl, inl, inr, sym, subst, ◌∙◌}
 use Rattle.mt_march.specs.Grammar.{SpellsMarch}
 use Rattle.mt_march.specs.Reading.{rule_broken}
 use Rattle.mt_march.specs.Value.{march_of}

@@ -1,4 +1,4 @@
-use Rattle.std.proofs.Common.{◌≡◌, ◌+◌, ◌<◌, ◌≤◌, drop, length}
+use Rattle.std.proofs.Common.{◌≡◌, ◌+◌, drop}
 use Rattle.mt_march.specs.Machine.{fault}
 use Rattle.mt_march.specs.declared.spelling.Expects.TheVariants.{Brace}
 use Rattle.mt_march.proofs.spelling.spelling_fault.Given as goal

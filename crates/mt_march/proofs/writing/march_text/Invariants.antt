@@ -1,6 +1,6 @@
-use Rattle.std.proofs.Common.{◌≡◌, ◌≤◌, ◌+◌, ◌*◌, List, ◌∷◌, ◌++◌, length, drop}
+use Rattle.std.proofs.Common.{◌≡◌, ◌≤◌, ◌+◌, ◌*◌, ◌++◌, length, drop}
 use Rattle.std.specs.List.{AllByRecursion}
-use Rattle.mt_march.specs.Grammar.{Token, more_elements, IsSome}
+use Rattle.mt_march.specs.Grammar.{more_elements, IsSome}
 use Rattle.mt_march.specs.Canonical.{text_of}
 use Rattle.mt_march.proofs.writing.march_text.Given as goal
 

@@ -1,5 +1,5 @@
-use Rattle.std.proofs.Common.{◌≡◌, ◌≤◌, ◌+◌, ◌*◌, List, ◌∷◌, ◌++◌, length, drop}
-use Rattle.mt_march.specs.Grammar.{Token, op_token, more_ops}
+use Rattle.std.proofs.Common.{◌≡◌, ◌+◌, ◌*◌, List, ◌++◌, length, drop}
+use Rattle.mt_march.specs.Grammar.{Token, more_ops}
 use Rattle.mt_march.specs.Canonical.{text_of}
 use Rattle.mt_march.proofs.writing.push_ops.Given as goal
 

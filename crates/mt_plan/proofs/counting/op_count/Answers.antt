@@ -1,5 +1,4 @@
-use Rattle.std.proofs.Common.{ℕ, ◌≡◌, ◌+◌, ◌<◌, ◌≤◌, length, take, get_or, arith, ap, sym, ◌∙◌}
-use Rattle.mt_march.specs.Accepted.{operations}
+use Rattle.std.proofs.Common.{◌≡◌, ◌<◌, length, get_or, arith, ap, ◌∙◌}
 use Rattle.mt_march.specs.declared.march.Element.{Element}
 use Rattle.mt_plan.proofs.Counts.{ops_taken}
 use Rattle.mt_plan.proofs.counting.op_count.Goals as goal

@@ -1,4 +1,4 @@
-use Rattle.std.proofs.Common.{ℕ, ◌≡◌, ◌+◌, ◌*◌, ◌/◌, ◌%◌, ◌<◌, ◌∙◌, arith}
+use Rattle.std.proofs.Common.{◌≡◌, ◌+◌, ◌*◌, ◌/◌, ◌%◌, ◌∙◌, arith}
 use Rattle.mt_plan.proofs.Standing.{checkerboard_index}
 use Rattle.mt_plan.proofs.indexing.checkerboard_place.Goals as goal
 

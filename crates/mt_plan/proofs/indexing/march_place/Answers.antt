@@ -1,8 +1,7 @@
-use Rattle.std.proofs.Common.{ℕ, ◌≡◌, ◌+◌, ◌*◌, ◌<◌, ◌≤◌, length, get_or, Some, arith, ap, refl}
+use Rattle.std.proofs.Common.{◌≡◌, ◌*◌, ◌<◌, ◌≤◌, length, Some, arith, refl}
 use Rattle.std.specs.Prelude.{slice_get}
 use Rattle.std.proofs.lemmas.Option.{slice_get_read}
-use Rattle.mt_plan.proofs.Standing.{IsPlaceOf, march_place_is, march_past, march_done}
-use Rattle.mt_plan.specs.declared.algorithm.Algorithm.TheVariants.{March as Marches}
+use Rattle.mt_plan.proofs.Standing.{march_place_is, march_past, march_done}
 use Rattle.mt_plan.proofs.indexing.march_place.Goals as goal
 
 pub returns-then-left-n-clause-place : goal.returns-then-left-n-clause-place

@@ -1,8 +1,7 @@
-use Rattle.std.proofs.Common.{ℕ, ◌≡◌, ◌<◌, ◌+◌, ◌*◌, arith, sym, subst, inl, inr}
+use Rattle.std.proofs.Common.{◌≡◌, ◌<◌, ◌+◌, ◌*◌, arith, sym, subst, inl, inr}
 use Rattle.mt_plan.specs.declared.algorithm.Algorithm.{Algorithm}
 use Rattle.mt_plan.specs.declared.algorithm.Algorithm.TheVariants.{Checkerboard, March as Marches, WalkPath, Galpat, TransparentGalpat}
 use Rattle.mt_plan.specs.Plan.{step_count}
-use Rattle.mt_plan.specs.Cursor.{IsPlace, index_of}
 use Rattle.mt_plan.proofs.Standing.{IsPlaceOf, IsRounds, within_count, round_place_is, walk_rounds, galpat_rounds, transparent_rounds}
 use Rattle.mt_plan.proofs.indexing.place_of.Goals as goal
 

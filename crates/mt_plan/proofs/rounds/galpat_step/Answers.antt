@@ -1,8 +1,7 @@
-use Rattle.std.proofs.Common.{ℕ, ◌≡◌, ◌<◌, arith, ap, sym, ◌∙◌, subst, List, Some}
+use Rattle.std.proofs.Common.{◌<◌, arith, ap, ◌∙◌, List}
 use Rattle.std.specs.Prelude.{slice_get}
-use Rattle.mt_plan.specs.declared.algorithm.Act.{Act}
 use Rattle.mt_plan.specs.declared.algorithm.Step.{Step}
-use Rattle.mt_plan.specs.Lists.{cells, step, galpat_base}
+use Rattle.mt_plan.specs.Lists.{cells, galpat_base}
 use Rattle.mt_plan.proofs.Bases.{first_row, later_row, write_at, first_len, galpat_len}
 use Rattle.mt_plan.proofs.rounds.galpat_step.Goals as goal
 

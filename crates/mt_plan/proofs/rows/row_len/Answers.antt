@@ -1,4 +1,4 @@
-use Rattle.std.proofs.Common.{ℕ, ◌≡◌, ◌<◌, ◌+◌, arith, ap, sym, ◌∙◌, length, inl, inr}
+use Rattle.std.proofs.Common.{◌<◌, ◌+◌, arith, ap, sym, ◌∙◌, length, inl, inr}
 use Rattle.mt_plan.specs.declared.algorithm.Algorithm.{Algorithm}
 use Rattle.mt_plan.specs.Lists.{cells, walk_base, galpat_base}
 use Rattle.mt_plan.specs.Rows.{row_of, row_count, is_second}

@@ -1,7 +1,7 @@
 use Rattle.std.proofs.Common.{◌≡◌, refl, sym, ap, ◌∙◌, Result, Ok, Err, ℕ}
 use Rattle.mt_text.specs.declared.line.Line.{Line}
 use Rattle.mt_text.specs.declared.line.LineRefusal.{LineRefusal}
-use Rattle.mt_replay.specs.Machine.{Machine}
+use Rattle.mt_replay.specs.Ram.{Machine}
 use Rattle.mt_replay.specs.Outcome.{answered, refused}
 use Rattle.mt_replay.proofs.Turns.{LineGives-same, refused_line, judged-is}
 use Rattle.mt_replay.proofs.run.judge_line.Goals as goal
@@ -15,6 +15,6 @@ returns-in-Err-clause-gives g c =
     let m : Machine = record { board = g.B.Port.state c.args.board.now; ram = c.args.ram.now } in
     refused_line c.refuse_turn.result _ (refused m c.args.number c.kind_number.result c.in-Err.refusal.place) m _
     (λ follow. judged-is _ _ _ _ follow c.requires.few c.requires.short
-      ∙ ap (λ (r : Result Line LineRefusal). answered c.args.config.now m c.args.number r follow) c.in-Err.ensures.value
-      ∙ ap (λ (k : ℕ). refused m c.args.number k c.in-Err.refusal.place) (sym c.kind_number.ensures))
+    ∙ ap (λ (r : Result Line LineRefusal). answered c.args.config.now m c.args.number r follow) c.in-Err.ensures.value
+    ∙ ap (λ (k : ℕ). refused m c.args.number k c.in-Err.refusal.place) (sym c.kind_number.ensures))
     (λ e. cc) (c.refuse_turn.ensures.gives m _)

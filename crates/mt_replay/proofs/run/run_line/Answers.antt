@@ -1,5 +1,5 @@
 use Rattle.std.proofs.Common.{◌≡◌, refl, sym, subst, ◌-◌, List, ℕ}
-use Rattle.mt_replay.specs.Machine.{Machine}
+use Rattle.mt_replay.specs.Ram.{Machine}
 use Rattle.mt_replay.specs.Outcome.{done, refused, judged}
 use Rattle.mt_replay.specs.Run.{LineGives, EndGives}
 use Rattle.mt_replay.proofs.Runs.{change, whole_turn, end_turn, last_leaves, end_leaves, long_leaves, broken_turn}

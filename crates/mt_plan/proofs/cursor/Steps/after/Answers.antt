@@ -1,4 +1,4 @@
-use Rattle.std.proofs.Common.{◌<◌, ◌+◌, ◌≤◌, arith}
+use Rattle.std.proofs.Common.{arith}
 use Rattle.mt_plan.proofs.Standing.{made_few, stands_on, stands_after, some_row}
 use Rattle.mt_plan.proofs.cursor.Steps.after.Goals as goal
 

@@ -1,5 +1,3 @@
-use Rattle.std.proofs.Common.{◌≤◌, arith}
-use Rattle.mt_plan.specs.Rows.{part_count, row_count}
 use Rattle.mt_plan.specs.Cursor.{IsCursor}
 use Rattle.mt_plan.proofs.Standing.{stands_first, some_part, some_row}
 use Rattle.mt_plan.proofs.cursor.Steps.new.Goals as goal

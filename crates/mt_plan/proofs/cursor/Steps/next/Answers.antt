@@ -1,6 +1,6 @@
-use Rattle.std.proofs.Common.{ℕ, ◌≡◌, ◌<◌, ◌≤◌, arith, sym, ◌∙◌}
+use Rattle.std.proofs.Common.{◌<◌, arith, sym, ◌∙◌}
 use Rattle.mt_plan.specs.Rows.{part_count}
-use Rattle.mt_plan.specs.Cursor.{IsCursor, Stands}
+use Rattle.mt_plan.specs.Cursor.{IsCursor}
 use Rattle.mt_plan.proofs.Standing.{stands_step, stands_end}
 use Rattle.mt_plan.proofs.cursor.Steps.next.Goals as goal
 

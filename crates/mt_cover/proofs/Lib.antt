@@ -1,0 +1,9 @@
+pub mod Model
+pub mod Models
+pub mod Link
+pub mod Cells
+pub mod Finite
+pub mod Covered
+pub mod Stuck
+pub mod Walks
+pub mod Table

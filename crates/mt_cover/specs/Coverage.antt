@@ -1,0 +1,71 @@
+-- Which faults an algorithm catches. The table is this project's theorem.
+use Rattle.std.specs.Prelude.{◌≡◌, ◌≢◌, ◌⊎◌, ◌<◌, ◌+◌, ℕ, false, List, map, Some}
+use Rattle.mt_word.specs.declared.Width.{Width}
+use Rattle.mt_word.specs.Word.{Fits, complement_of}
+use Rattle.mt_fault.specs.declared.fault.Fault.{Fault}
+use Rattle.mt_fault.specs.declared.fault.Fault.TheVariants as faults
+use Rattle.mt_fault.specs.History.{History}
+use Rattle.mt_fault.specs.Placement.{IsWellPlaced, IsInside}
+use Rattle.mt_fault.specs.Items.{Item, Check, Store, passes}
+use Rattle.mt_march.specs.Known.{march_c_minus}
+use Rattle.mt_plan.specs.declared.algorithm.Act.{Act}
+use Rattle.mt_plan.specs.declared.algorithm.Act.TheVariants.{WritePlain, WriteFlipped, ReadPlain, ReadFlipped}
+use Rattle.mt_plan.specs.declared.algorithm.Step.{Step}
+use Rattle.mt_plan.specs.declared.algorithm.Algorithm.{Algorithm}
+use Rattle.mt_plan.specs.declared.algorithm.Algorithm.TheVariants.{Checkerboard, March as Marches, WalkPath, Galpat, TransparentGalpat}
+use Rattle.mt_plan.specs.Plan.{steps_of, IsAccepted}
+use Rattle.mt_cover.specs.declared.class.Class.{Class}
+use Rattle.mt_cover.specs.declared.class.Class.TheVariants.{StuckAt, Transition, Invert, Force, State, Decoder}
+
+-- the class of a fault
+abbrev pub class_of : Fault → Class
+class_of (faults.StuckAt vic value) = StuckAt
+class_of (faults.CannotRise vic) = Transition
+class_of (faults.CannotFall vic) = Transition
+class_of (faults.Invert agg rise vic) = Invert
+class_of (faults.Force agg rise vic value) = Force
+class_of (faults.State agg holds vic value) = State
+class_of (faults.NoCell addr seen) = Decoder
+class_of (faults.Also addr other wired_and) = Decoder
+class_of (faults.Instead addr other) = Decoder
+
+-- the classes of walk path and Galpat: stuck-at, transition and inversion coupling
+abbrev pub IsWalkTabled : Class → Type 0
+IsWalkTabled StuckAt = Unit {0}
+IsWalkTabled Transition = Unit {0}
+IsWalkTabled Invert = Unit {0}
+IsWalkTabled Force = ⊥
+IsWalkTabled State = ⊥
+IsWalkTabled Decoder = ⊥
+
+-- the table of coverage: March C- has the five classes of bit faults, any other accepted march stuck-at alone
+abbrev pub IsTabled : Algorithm → Class → Type 0
+IsTabled Checkerboard class = class ≡ StuckAt
+IsTabled (Marches march) class = (class ≡ StuckAt) ⊎ ((march.elements.items ≡ march_c_minus) × (class ≢ Decoder))
+IsTabled WalkPath class = IsWalkTabled class
+IsTabled Galpat class = IsWalkTabled class
+IsTabled TransparentGalpat class = IsWalkTabled class
+
+-- a step as a test access of the word at an address, where `back` is the cell's background word
+abbrev pub act_on : Width → ℕ → ℕ → Act → Item
+act_on width addr back WritePlain = Store addr back
+act_on width addr back WriteFlipped = Store addr (complement_of width back)
+act_on width addr back ReadPlain = Check addr back
+act_on width addr back ReadFlipped = Check addr (complement_of width back)
+
+-- the same on a slice that begins at `first`, where `back` gives each cell its background word
+abbrev pub item_of : Width → ℕ → (ℕ → ℕ) → Step → Item
+item_of width first back step = act_on width (first + step.cell) (back step.cell) step.act
+
+-- some checked read of the steps answers another word, whatever the first words and the accesses before were
+abbrev pub Catches : Width → (first : ℕ) → (back : ℕ → ℕ) → List Step → Fault → Type 0
+Catches width first back steps fault =
+    (words : List ℕ) (earlier : History) → passes (Some fault) words earlier (map (item_of width first back) steps) ≡ false
+
+-- each fault of a tabled class that lies inside n cells is caught, whatever their background words are
+abbrev pub Coverage : Type 0
+Coverage =
+    (algorithm : Algorithm) (width : Width) (fault : Fault) (size first n : ℕ) (back : ℕ → ℕ)
+    → IsAccepted algorithm → IsTabled algorithm (class_of fault)
+    → IsWellPlaced width size fault → IsInside fault first n → ((cell : ℕ) → cell < n → Fits width (back cell))
+    → Catches width first back (steps_of algorithm n) fault

@@ -1,0 +1,11 @@
+//! Which faults the algorithms of a RAM test catch, and the proof that they do.
+#![tactic(auto)]
+
+mod class;
+mod coverage;
+
+pub use class::{Class, class_of};
+pub use coverage::{covers, each_tabled_fault_is_caught};
+
+#[cfg(test)]
+mod tests;
