@@ -12,7 +12,7 @@ use Rattle.mt_blocks.specs.declared.pass.Position.{Position}
 use Rattle.mt_blocks.specs.Slices.{Piece, span_len, span_at, slice_count, piece, pieces, pieces_from, pass, from_place, piece_at, next_of, AreSpans, IsValid}
 use Rattle.mt_blocks.specs.Groups.{group_len, group, groups, groups_up_to, ticks}
 use Rattle.mt_blocks.specs.Laws.{joined, GroupsAreThePass}
-use Rattle.mt_blocks.proofs.Passes.{count_inside}
+use Rattle.mt_blocks.proofs.Passes.{count_inside, from_next, from_step}
 
 -- no slice has more words than a tick may test
 abbrev pub AreSmall : ℕ → List Piece → Type 0
@@ -71,9 +71,9 @@ opened-groups N [] most left small long = none_up_to most N
 opened-groups N (p ∷ more) zero left small long = absurd (omega (arith, long))
 opened-groups N (p ∷ more) (suc most) left small long =
     of (leb_tells p.slice.n left)
-      (opened-groups N more (suc most) (left - p.slice.n) small.1 (omega (arith, long)))
-      (opened-groups N more most (N - p.slice.n) small.1 (omega (arith, long)))
-      (leb_tells p.slice.n N)
+    (opened-groups N more (suc most) (left - p.slice.n) small.1 (omega (arith, long)))
+    (opened-groups N more most (N - p.slice.n) small.1 (omega (arith, long)))
+    (leb_tells p.slice.n N)
   where
     of : ((leb p.slice.n left ≡ true) × (p.slice.n ≤ left)) ⊎ ((leb p.slice.n left ≡ false) × (left < p.slice.n))
         → opened N (left - p.slice.n) more ≡ length (groups_up_to (suc most) N (drop (group_len (left - p.slice.n) more) more))
@@ -83,12 +83,12 @@ opened-groups N (p ∷ more) (suc most) left small long =
         ≡ length (groups_up_to (suc most) N (drop (cond (leb p.slice.n left) (suc (group_len (left - p.slice.n) more)) 0) (p ∷ more)))
     of (inl h) same next fits =
         subst (λ (b : Bool). cond b (opened N (left - p.slice.n) more) (suc (opened N (N - p.slice.n) more))
-            ≡ length (groups_up_to (suc most) N (drop (cond b (suc (group_len (left - p.slice.n) more)) 0) (p ∷ more)))) (sym h.0) same
+        ≡ length (groups_up_to (suc most) N (drop (cond b (suc (group_len (left - p.slice.n) more)) 0) (p ∷ more)))) (sym h.0) same
     of (inr h) same next (inl fits) =
         let new : suc (opened N (N - p.slice.n) more) ≡ suc (length (groups_up_to most N (drop (cond (leb p.slice.n N) (suc (group_len (N - p.slice.n) more)) 0) (p ∷ more)))) =
         subst (λ (b : Bool). suc (opened N (N - p.slice.n) more) ≡ suc (length (groups_up_to most N (drop (cond b (suc (group_len (N - p.slice.n) more)) 0) (p ∷ more))))) (sym fits.0) (ap suc next) in
         subst (λ (b : Bool). cond b (opened N (left - p.slice.n) more) (suc (opened N (N - p.slice.n) more))
-            ≡ length (groups_up_to (suc most) N (drop (cond b (suc (group_len (left - p.slice.n) more)) 0) (p ∷ more)))) (sym h.0) new
+        ≡ length (groups_up_to (suc most) N (drop (cond b (suc (group_len (left - p.slice.n) more)) 0) (p ∷ more)))) (sym h.0) new
     of (inr h) same next (inr wide) = absurd (omega (arith, small.0, wide.1))
 
 -- a pass before which no group is open
@@ -135,3 +135,25 @@ pass_short K i (s ∷ more) some low =
     let here : s.last < 65536 = low 0 (omega arith) in
     let rest = pass_short K (i + 1) more some (λ j h. low (suc j) (omega (arith, h))) in
     omega (arith, length-append (pieces K i s) (pieces_from K (i + 1) more), length-map-range_with_len (λ k. piece K i s (k * K)) 0 (slice_count K s), few, here, rest)
+
+-- what follows a position, where the next one is known
+pub next_step : (K : ℕ) (spans : List Span) (o : Option Position) (p : Position) (q : Option Position) → AreSpans K spans → IsValid K spans p → o ≡ Some p → q ≡ next_of K spans p
+    → from_next K spans o ≡ piece_at K spans p ∷ from_next K spans q
+next_step K spans o p q ok valid here next =
+    ap (from_next K spans) here ∙ from_step K spans p ok valid ∙ ap (λ (x : Option Position). piece_at K spans p ∷ from_next K spans x) (sym next)
+
+-- one turn of counting, where the slice fits into the group before
+pub turn_fits : (N ticks left words ticks' left' : ℕ) (p : Piece) (more L : List Piece) (total : ℕ) → L ≡ p ∷ more → words ≡ p.slice.n → words ≤ left → ticks' ≡ ticks → left' ≡ left - words
+    → ticks + opened N left L ≡ total → ticks' + opened N left' more ≡ total
+turn_fits N ticks left words ticks' left' p more L total e n low t l same =
+    let one = opened-fits N left p more L e (omega (arith, n, low)) in
+    let two = ap (λ (x : ℕ). opened N x more) (let q : left' ≡ left - p.slice.n = omega (arith, l, n) in q) in
+    omega (arith, one, two, same, t)
+
+-- and where it begins one
+pub turn_begins : (N ticks left words ticks' left' : ℕ) (p : Piece) (more L : List Piece) (total : ℕ) → L ≡ p ∷ more → words ≡ p.slice.n → left < words → ticks' ≡ ticks + 1 → left' ≡ N - words
+    → ticks + opened N left L ≡ total → ticks' + opened N left' more ≡ total
+turn_begins N ticks left words ticks' left' p more L total e n low t l same =
+    let one = opened-full N left p more L e (omega (arith, n, low)) in
+    let two = ap (λ (x : ℕ). opened N x more) (let q : left' ≡ N - p.slice.n = omega (arith, l, n) in q) in
+    omega (arith, one, two, same, t)

@@ -50,9 +50,9 @@ pieces_words K i s (suc c) k all =
 pub slices_are_the_block : SlicesAreTheBlock
 slices_are_the_block K i s some ordered =
     let all : span_len s ≤ (0 + slice_count K s) * K =
-        let c = count_all K (span_len s) some in
-        let e = ap (λ (x : ℕ). x * K) (let q : 0 + slice_count K s ≡ slice_count K s = omega arith in q) in
-        omega (arith, c, e) in
+    let c = count_all K (span_len s) some in
+    let e = ap (λ (x : ℕ). x * K) (let q : 0 + slice_count K s ≡ slice_count K s = omega arith in q) in
+    omega (arith, c, e) in
     let zeros : 0 * K ≡ 0 = omega arith in
     pieces_words K i s (slice_count K s) 0 all
     ∙ ap (λ (x : ℕ). range_with_len (s.first + x) (span_len s - x)) zeros
@@ -88,10 +88,10 @@ groups_fit N (p ∷ more) = of (leb_tells p.slice.n N) (groups_fit (N - p.slice.
         → (group_len N (p ∷ more) ≤ length (p ∷ more)) × (word_count (take (group_len N (p ∷ more)) (p ∷ more)) ≤ N)
     of (inl h) next =
         subst (λ (b : Bool). (cond b (suc (group_len (N - p.slice.n) more)) 0 ≤ length (p ∷ more)) × (word_count (take (cond b (suc (group_len (N - p.slice.n) more)) 0) (p ∷ more)) ≤ N))
-            (sym h.0) (omega (arith, next.0), omega (arith, next.1, h.1))
+        (sym h.0) (omega (arith, next.0), omega (arith, next.1, h.1))
     of (inr h) next =
         subst (λ (b : Bool). (cond b (suc (group_len (N - p.slice.n) more)) 0 ≤ length (p ∷ more)) × (word_count (take (cond b (suc (group_len (N - p.slice.n) more)) 0) (p ∷ more)) ≤ N))
-            (sym h.0) (omega arith, omega arith)
+        (sym h.0) (omega arith, omega arith)
 
 pub groups_are_longest : GroupsAreLongest
 groups_are_longest N [] h = absurd (omega (arith, h))
@@ -102,7 +102,7 @@ groups_are_longest N (p ∷ more) h = of (leb_tells p.slice.n N) (λ l. groups_a
         → group_len N (p ∷ more) < length (p ∷ more) → N < word_count (take (suc (group_len N (p ∷ more))) (p ∷ more))
     of (inl h) next =
         subst (λ (b : Bool). cond b (suc (group_len (N - p.slice.n) more)) 0 < length (p ∷ more) → N < word_count (take (suc (cond b (suc (group_len (N - p.slice.n) more)) 0)) (p ∷ more)))
-            (sym h.0) (λ l. let n = next (omega (arith, l)) in omega (arith, n, h.1))
+        (sym h.0) (λ l. let n = next (omega (arith, l)) in omega (arith, n, h.1))
     of (inr h) next =
         subst (λ (b : Bool). cond b (suc (group_len (N - p.slice.n) more)) 0 < length (p ∷ more) → N < word_count (take (suc (cond b (suc (group_len (N - p.slice.n) more)) 0)) (p ∷ more)))
-            (sym h.0) (λ l. omega (arith, h.1))
+        (sym h.0) (λ l. omega (arith, h.1))

@@ -13,6 +13,3 @@ pub use laws::{groups_are_longest, groups_are_the_pass, slices_are_the_block};
 pub use list::List;
 pub use pass::{Position, following, group_len, is_last, slice_at, ticks_of};
 pub use span::{HasSpan, Span};
-
-#[cfg(test)]
-mod tests;
