@@ -194,7 +194,7 @@ wrong_count t = (not (is_count 16 (length (array_at (codes "set") t))) || any_se
 
 -- Algorithm: a name that is none of an algorithm; `march` with another algorithm than `march`; a policy of another name.
 abbrev pub is_named : List ℕ → List ℕ → Members → Bool
-is_named key name t = bytes_eq (text_at key t) name
+is_named key name t = bytes_eq name (text_at key t)
 
 abbrev pub algorithm_names : List (List ℕ)
 algorithm_names = codes "checkerboard" ∷ codes "march" ∷ codes "walk-path" ∷ codes "galpat" ∷ codes "transparent-galpat" ∷ []

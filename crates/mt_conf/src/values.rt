@@ -148,7 +148,7 @@ pub fn has_wrong_count(table: &Table) -> bool
 pub fn is_named(table: &Table, key: &str, name: &str) -> bool
     ensures { result ≡ is_named key.now name.now (table_view table.now) }
 {
-    text_at(table, key) == name
+    name == text_at(table, key)
 }
 
 #[tactic(auto, unfolding(crate::specs::Rules::wrong_policy))]
