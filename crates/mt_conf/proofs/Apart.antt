@@ -1,5 +1,5 @@
 -- Blocks of which no two meet.
-use Rattle.std.proofs.Common.{◌≡◌, ◌⊎◌, ℕ, ℤ, pos, zero, suc, ◌<◌, ◌≤◌, Bool, true, false, List, [], ◌∷◌, length, map, refl, sym, ap, ◌∙◌, rules, arith}
+use Rattle.std.proofs.Common.{◌≡◌, ◌⊎◌, ℕ, ℤ, pos, zero, suc, ◌<◌, ◌≤◌, Bool, true, false, List, [], ◌∷◌, length, map, refl, sym, subst, ap, ◌∙◌, rules, arith}
 use Rattle.std.specs.Prelude.{codes, slice_index_or}
 use Rattle.std.specs.List.{list_any, AllByRecursion}
 use Rattle.std.proofs.lemmas.Bool.{or_parts}
@@ -38,7 +38,8 @@ span_fields (array ds) = refl
 
 apart_two : (d e : Data) → IsExact d → IsExact e → meet (span_of d) (span_of e) ≡ false → AreApart (span d) (span e)
 apart_two d e x y h =
-    let k : meet (first d, last d) (first e, last e) ≡ false = rw (← span_fields d, ← span_fields e) h in
+    let k =
+        subst (λ (x : ℤ × ℤ). meet (first d, last d) x ≡ false) (span_fields e) (subst (λ (x : ℤ × ℤ). meet x (span_of e) ≡ false) (span_fields d) h) in
     apart (first d) (last d) (first e) (last e) x.0 x.1 y.0 y.1 k
 
 -- each two are apart

@@ -6,3 +6,6 @@ pub mod Checks
 pub mod Tables
 pub mod Numbers
 pub mod Apart
+pub mod Sets
+pub mod FlashBlocks
+pub mod Taken

@@ -11,7 +11,7 @@ use Rattle.mt_conf.specs.Rules.{in_table, in_option, other_type, has_tables}
 abbrev pub is_table : Data → Bool
 is_table d = is_some (as_table d)
 
-here : (test : Members → Bool) (d : Data) → is_table d ≡ true → in_table test d ≡ false → test (fields d) ≡ false
+pub here : (test : Members → Bool) (d : Data) → is_table d ≡ true → in_table test d ≡ false → test (fields d) ≡ false
 here test (table ms) h k = k
 here test (string s) h k = absurd cc
 here test (integer z) h k = absurd cc
