@@ -39,7 +39,7 @@ span_fields (array ds) = refl
 apart_two : (d e : Data) → IsExact d → IsExact e → meet (span_of d) (span_of e) ≡ false → AreApart (span d) (span e)
 apart_two d e x y h =
     let k =
-        subst (λ (x : ℤ × ℤ). meet (first d, last d) x ≡ false) (span_fields e) (subst (λ (x : ℤ × ℤ). meet x (span_of e) ≡ false) (span_fields d) h) in
+    subst (λ (x : ℤ × ℤ). meet (first d, last d) x ≡ false) (span_fields e) (subst (λ (x : ℤ × ℤ). meet x (span_of e) ≡ false) (span_fields d) h) in
     apart (first d) (last d) (first e) (last e) x.0 x.1 y.0 y.1 k
 
 -- each two are apart

@@ -59,7 +59,7 @@ blocks_accepted shape flash key f same e few types range overlap =
     let ds = array_at key f in
     let tables = are_tables key f types in
     all_mapped (IsGood flash) (IsAcceptedFlashBlock shape) (λ d. flash_block_of (fields d)) (λ d good. block_accepted shape flash d same e few good) ds
-        (both (λ d. wrong_flash_block flash (fields d) ≡ false) (λ d. copy_overlap_of (fields d) ≡ false) ds (each (wrong_flash_block flash) ds tables range) (each copy_overlap_of ds tables overlap))
+    (both (λ d. wrong_flash_block flash (fields d) ≡ false) (λ d. copy_overlap_of (fields d) ≡ false) ds (each (wrong_flash_block flash) ds tables range) (each copy_overlap_of ds tables overlap))
 
 few_by : (n : ℕ) → nat_lt 64 n ≡ false → n ≤ 64
 few_by n h = grind (arith, nat_tests, h)
@@ -68,9 +68,10 @@ fls_counts : (f : Members) → wrong_count_in_fls f ≡ false
     → (length (map (λ d. flash_block_of (fields d)) (array_at (codes "bgnd") f)) ≤ 64) × (length (map (λ d. flash_block_of (fields d)) (array_at (codes "fgnd") f)) ≤ 64)
 unfolding wrong_count_in_fls
 fls_counts f h =
-    let parts = or_parts _ _ h in
-    ( rw (length-map (array_at (codes "bgnd") f) (λ d. flash_block_of (fields d))) (few_by _ parts.0)
-    , rw (length-map (array_at (codes "fgnd") f) (λ d. flash_block_of (fields d))) (few_by _ parts.1) )
+    let parts = or_parts _ _ h in (
+      rw (length-map (array_at (codes "bgnd") f) (λ d. flash_block_of (fields d))) (few_by _ parts.0),
+      rw (length-map (array_at (codes "fgnd") f) (λ d. flash_block_of (fields d))) (few_by _ parts.1),
+    )
 
 fls_types : (f : Members) → wrong_in_fls f ≡ false → (other_type has_tables (codes "bgnd") f ≡ false) × (other_type has_tables (codes "fgnd") f ≡ false)
 unfolding wrong_in_fls

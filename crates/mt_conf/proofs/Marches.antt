@@ -16,9 +16,10 @@ use Rattle.mt_conf.specs.Outcome.{march_refusal, march_with}
 
 none_before : (text : List ℕ) (p q : ℕ) → IsSpellingPlace text p → IsSpellingPlace text q → p < q → ⊥
 none_before text p q at_p at_q less =
-    elim at_p.there
-    [ inl here ↦ here.1 (at_q.before p less)
-    | inr ends ↦ elim at_q.there [ inl there ↦ absurd (omega (arith, ends, there.0)) | inr later ↦ absurd (omega (arith, ends, later)) ] ]
+    elim at_p.there [
+      | inl here ↦ here.1 (at_q.before p less)
+      | inr ends ↦ elim at_q.there [ inl there ↦ absurd (omega (arith, ends, there.0)) | inr later ↦ absurd (omega (arith, ends, later)) ]
+    ]
 
 -- the place of a fault of spelling is one
 same_place : (text : List ℕ) (p q : ℕ) → IsSpellingPlace text p → IsSpellingPlace text q → p ≡ q

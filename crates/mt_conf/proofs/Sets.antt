@@ -59,7 +59,7 @@ none_refused i (d ∷ ds) h =
 c_minus_accepted : IsAcceptedMarch march_c_minus
 c_minus_accepted =
     let short : AllByRecursion (λ (e : Element). (1 ≤ length e.ops.items) × (length e.ops.items ≤ 8)) march_c_minus =
-        ((omega arith, omega arith), ((omega arith, omega arith), ((omega arith, omega arith), ((omega arith, omega arith), ((omega arith, omega arith), ((omega arith, omega arith), tt)))))) in
+    ((omega arith, omega arith), ((omega arith, omega arith), ((omega arith, omega arith), ((omega arith, omega arith), ((omega arith, omega arith), ((omega arith, omega arith), tt)))))) in
     record {
       some = omega arith;
       few = omega arith;
@@ -183,7 +183,7 @@ set_accepted shape ram s e few same facts =
       accepted = algorithm_accepted facts.march.0 s facts.march.1;
       kept = λ transparent.
           all_mapped (λ d. is_destructive (fields d) ≡ false) (λ (b : Block). b.policy ≡ NonDestructive) (λ d. block_of shape.width (fields d)) (λ d h. kept_block shape.width d h) (array_at (codes "block") s)
-              (each is_destructive (array_at (codes "block") s) (block_tables s facts.types) (none_destructive s facts.algorithm facts.kept transparent));
+          (each is_destructive (array_at (codes "block") s) (block_tables s facts.types) (none_destructive s facts.algorithm facts.kept transparent));
       background = word_fits shape.width (text_at (codes "background") s);
       some = count.0;
       few = count.1;

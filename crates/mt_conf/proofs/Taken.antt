@@ -120,7 +120,7 @@ set_facts t f =
     let tables = are_tables (codes "set") t f.sets in
     let ram = number_at (codes "ram") t in
     joined ram ds (each wrong_in_set ds tables f.set_types) (each wrong_count_in_set ds tables f.set_counts) (each wrong_algorithm_in_set ds tables f.algorithms) (none_march t f.marches)
-        (each transparent_destructive_in_set ds tables f.kept) (each (any_block (wrong_range ram)) ds tables f.ranges) (each overlap_in_set ds tables f.overlaps) (each wrong_cells ds tables f.cells)
+    (each transparent_destructive_in_set ds tables f.kept) (each (any_block (wrong_range ram)) ds tables f.ranges) (each overlap_in_set ds tables f.overlaps) (each wrong_cells ds tables f.cells)
 
 limits : (t : Members) → Facts t → IsWithinLimits (shape_of t)
 unfolding shape_of
@@ -138,12 +138,12 @@ sets_taken t f =
     let ram = number_at (codes "ram") t in
     let size = within ram 1 65536 (omega arith) f.ram in
     all_mapped (λ d. SetFacts ram (fields d)) (IsAcceptedSet (shape_of t)) (λ d. set_of (width_at t) (fields d)) (λ d facts. set_accepted (shape_of t) ram (fields d) size.0 size.2 refl facts)
-        (array_at (codes "set") t) (set_facts t f)
+    (array_at (codes "set") t) (set_facts t f)
 
 ram_taken : (t : Members) → Facts t → IsAcceptedRam (shape_of t) (record { sets = map (λ d. set_of (width_at t) (fields d)) (array_at (codes "set") t) })
 ram_taken t f =
     let count : (1 ≤ length (map (λ d. set_of (width_at t) (fields d)) (array_at (codes "set") t))) × (length (map (λ d. set_of (width_at t) (fields d)) (array_at (codes "set") t)) ≤ 16) =
-        rw (length-map (array_at (codes "set") t) (λ d. set_of (width_at t) (fields d))) (count_low (length (array_at (codes "set") t)) f.count) in
+    rw (length-map (array_at (codes "set") t) (λ d. set_of (width_at t) (fields d))) (count_low (length (array_at (codes "set") t)) f.count) in
     record { limits = limits t f; some = count.0; few = count.1; sets = sets_taken t f }
 
 flash_taken : (t : Members) → Facts t → IsAcceptedFls (shape_of t) (fls_at t)

@@ -14,3 +14,6 @@ mod values;
 pub use config::{Config, ConfigRefusal};
 pub use laws::{accepted_is_taken, marches_are_read, refusal_is_least};
 pub use reading::read_config;
+
+#[cfg(test)]
+mod tests;

@@ -103,7 +103,14 @@ fn set_has_unknown_key(table: &Table) -> bool
     ensures { result ≡ unknown_in_set (table_view table.now) }
 {
     has_other_key(
-        &["algorithm", "march", "background", "atomic", "cells", "block"],
+        &[
+            "algorithm",
+            "march",
+            "background",
+            "atomic",
+            "cells",
+            "block",
+        ],
         table,
     ) || any_table(table, "block", &block_has_other_key)
 }

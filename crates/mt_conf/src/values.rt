@@ -155,7 +155,10 @@ pub fn is_named(table: &Table, key: &str, name: &str) -> bool
 fn block_has_wrong_policy(table: &Table) -> bool
     ensures { result ≡ wrong_policy (table_view table.now) }
 {
-    !is_one_of(&["non-destructive", "destructive"], text_at(table, "policy"))
+    !is_one_of(
+        &["non-destructive", "destructive"],
+        text_at(table, "policy"),
+    )
 }
 
 #[tactic(auto, unfolding(crate::specs::Rules::idle_march))]
@@ -170,7 +173,13 @@ fn set_has_wrong_algorithm(table: &Table) -> bool
     ensures { result ≡ wrong_algorithm_in_set (table_view table.now) }
 {
     !is_one_of(
-        &["checkerboard", "march", "walk-path", "galpat", "transparent-galpat"],
+        &[
+            "checkerboard",
+            "march",
+            "walk-path",
+            "galpat",
+            "transparent-galpat",
+        ],
         text_at(table, "algorithm"),
     ) || set_has_idle_march(table)
         || any_table(table, "block", &block_has_wrong_policy)

@@ -16,10 +16,13 @@ returns-then-passes g c = λ p tests.
     rw (← c.array_at-value-items.ensures, ← whole) (sym (list_any_at (λ v. in_table p (view v)) _ _ c.value-item.result c.loop-value-test.true here))
 
 pub loop-value-preserved : goal.loop-value-preserved
-loop-value-preserved g c = (c.loop-value.invariant.0, λ p tests.
-    let here : in_table p (view (get_or c.array_at-value-items.result.now c.loop-value.value-index c.value-item.result)) ≡ false = rw (← c.value-item.is) (sym (c.passes.ensures p tests) ∙ c.if-passes.false) in
-    let before = c.loop-value.invariant.1 p tests in
-    list_any_more (λ v. in_table p (view v)) _ _ c.value-item.result c.loop-value-test.true ∙ rw (before, here))
+loop-value-preserved g c = (
+  c.loop-value.invariant.0,
+  λ p tests.
+      let here : in_table p (view (get_or c.array_at-value-items.result.now c.loop-value.value-index c.value-item.result)) ≡ false = rw (← c.value-item.is) (sym (c.passes.ensures p tests) ∙ c.if-passes.false) in
+      let before = c.loop-value.invariant.1 p tests in
+      list_any_more (λ v. in_table p (view v)) _ _ c.value-item.result c.loop-value-test.true ∙ rw (before, here),
+)
 
 pub returns : goal.returns
 returns g c = λ p tests.
