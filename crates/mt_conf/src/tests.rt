@@ -89,16 +89,8 @@ fn keys_and_types(rt: HostRuntime) {
         (6, ["version = 1\nwidth = 12\nram = 10\n", SET, BLOCK, ""]),
         (6, ["version = 1\nwidth = 64\nram = 0\n", SET, BLOCK, ""]),
     ];
-    for (expected, pieces) in table {
-        assert_eq!(rt;
-            number(rt.alloc(), &pieces),
-            expected,
-            "{}{}{}{}",
-            pieces[0],
-            pieces[1],
-            pieces[2],
-            pieces[3]
-        );
+    for (expected, [a, b, c, d]) in table {
+        assert_eq!(rt; number(rt.alloc(), &[a, b, c, d]), expected, "{a}{b}{c}{d}");
     }
     assert_eq!(rt;
         read_config(rt.alloc(), b"version = \xff").err(),
@@ -188,16 +180,8 @@ fn sizes_words_and_names(rt: HostRuntime) {
         ),
         (10, [TOP, GALPAT, "march = \"{*(w0);u(r0)}\"\n", BLOCK]),
     ];
-    for (expected, pieces) in table {
-        assert_eq!(rt;
-            number(rt.alloc(), &pieces),
-            expected,
-            "{}{}{}{}",
-            pieces[0],
-            pieces[1],
-            pieces[2],
-            pieces[3]
-        );
+    for (expected, [a, b, c, d]) in table {
+        assert_eq!(rt; number(rt.alloc(), &[a, b, c, d]), expected, "{a}{b}{c}{d}");
     }
 }
 
@@ -277,16 +261,8 @@ fn blocks_and_cells(rt: HostRuntime) {
             ],
         ),
     ];
-    for (expected, pieces) in table {
-        assert_eq!(rt;
-            number(rt.alloc(), &pieces),
-            expected,
-            "{}{}{}{}",
-            pieces[0],
-            pieces[1],
-            pieces[2],
-            pieces[3]
-        );
+    for (expected, [a, b, c, d]) in table {
+        assert_eq!(rt; number(rt.alloc(), &[a, b, c, d]), expected, "{a}{b}{c}{d}");
     }
 }
 
@@ -319,12 +295,8 @@ fn flash_blocks(rt: HostRuntime) {
 fn refused_march_tells_its_set_and_place(rt: HostRuntime) {
     let bad = "[[set]]\nalgorithm = \"march\"\natomic = 4\ncells = 8\nmarch = \"{*(w0);u(r0)}\"\n";
     let table = [(0, [TOP, bad, BLOCK, ""]), (1, [TOP, GALPAT, BLOCK, bad])];
-    for (expected, pieces) in table {
-        let refusal = read(
-            rt.alloc(),
-            &[pieces[0], pieces[1], pieces[2], pieces[3], BLOCK],
-        )
-        .err();
+    for (expected, [a, b, c, d]) in table {
+        let refusal = read(rt.alloc(), &[a, b, c, d, BLOCK]).err();
         assert_eq!(rt;
             refusal,
             Some(ConfigRefusal::March {
