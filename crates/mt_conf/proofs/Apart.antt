@@ -1,12 +1,12 @@
 -- Blocks of which no two meet.
-use Rattle.std.proofs.Common.{◌≡◌, ◌⊎◌, ℕ, ℤ, pos, zero, suc, ◌<◌, ◌≤◌, Bool, true, false, List, [], ◌∷◌, length, map, refl, sym, subst, ap, ◌∙◌, rules, arith}
-use Rattle.std.specs.Prelude.{codes, slice_index_or}
+use Rattle.std.proofs.Common.{◌≡◌, ℕ, ℤ, pos, zero, suc, ◌<◌, false, List, [], ◌∷◌, length, map, refl, subst, ap, arith}
+use Rattle.std.specs.Prelude.{codes}
 use Rattle.std.specs.List.{list_any, AllByRecursion}
 use Rattle.std.proofs.lemmas.Bool.{or_parts}
 use Rattle.toml.specs.Data.{Data, string, integer, float, boolean, datetime, array, table}
 use Rattle.mt_word.specs.declared.Width.{Width}
 use Rattle.mt_blocks.specs.declared.span.Span.{Span}
-use Rattle.mt_blocks.specs.Slices.{span_at, no_span}
+use Rattle.mt_blocks.specs.Slices.{span_at}
 use Rattle.mt_blocks.specs.Accepted.{AreApart, spans_of}
 use Rattle.mt_conf.specs.Lookup.{number_at, fields}
 use Rattle.mt_conf.specs.Rules.{span_of, meet, any_meet, small}

@@ -1,7 +1,7 @@
 -- What the checks of a table know.
-use Rattle.std.proofs.Common.{◌≡◌, ℕ, ◌≤◌, ◌++◌, ◌∷◌, Bool, true, false, length, Option, Some, None, refl, sym, ap, ◌∙◌, rules, arith}
-use Rattle.std.specs.Prelude.{codes, not, ◌&&◌, nat_le}
-use Rattle.std.proofs.lemmas.Bool.{and_parts, or_parts}
+use Rattle.std.proofs.Common.{◌≡◌, ℕ, ◌≤◌, ◌∷◌, false, length, Option, Some, None, ap, ◌∙◌, arith}
+use Rattle.std.specs.Prelude.{codes, not}
+use Rattle.std.proofs.lemmas.Bool.{or_parts}
 use Rattle.std.proofs.lemmas.Bool.Decides.{nat_tests}
 use Rattle.toml.specs.Data.{Members}
 use Rattle.mt_conf.specs.declared.config.ConfigRefusal.{ConfigRefusal}

@@ -1,7 +1,6 @@
 -- A flash configuration that breaks no rule is an accepted one.
-use Rattle.std.proofs.Common.{◌≡◌, ◌⊎◌, ℕ, ℤ, pos, ◌+◌, ◌-◌, ◌<◌, ◌≤◌, Bool, true, false, cond, List, [], ◌∷◌, length, map, All, Option, Some, None, refl, sym, subst, ap, ◌∙◌, rules, arith, inl, inr}
-use Rattle.std.specs.Prelude.{codes, not, ◌&&◌, ◌||◌, is_some, option_and_then, nat_le, nat_lt}
-use Rattle.std.specs.List.{list_all, AllByRecursion}
+use Rattle.std.proofs.Common.{◌≡◌, ℕ, ℤ, pos, ◌<◌, ◌≤◌, true, false, List, [], length, map, All, Option, Some, None, arith, inl, inr}
+use Rattle.std.specs.Prelude.{codes, not, ◌&&◌, is_some, option_and_then, nat_le, nat_lt}
 use Rattle.std.proofs.lemmas.Bool.{and_parts, or_parts, and_cases}
 use Rattle.std.proofs.lemmas.Bool.Decides.{nat_tests}
 use Rattle.std.proofs.lemmas.List.{length-map}
@@ -12,7 +11,7 @@ use Rattle.mt_port.specs.Board.{IsWithinLimits}
 use Rattle.mt_blocks.specs.declared.config.FlashBlock.{FlashBlock}
 use Rattle.mt_blocks.specs.Accepted.{AreApart, IsAcceptedFlashBlock, IsAcceptedFls}
 use Rattle.mt_conf.specs.Lookup.{number_at, array_at, fields}
-use Rattle.mt_conf.specs.Rules.{any_at, in_option, other_type, has_tables, wrong_in_fls, wrong_count_in_fls, is_within, small, flash_block_of, copy_end, in_order, wrong_flash_block, wrong_fls, wrong_cells, meets_copy, copy_overlap_of, copy_overlap_in_fls}
+use Rattle.mt_conf.specs.Rules.{any_at, in_option, other_type, has_tables, wrong_in_fls, wrong_count_in_fls, small, flash_block_of, copy_end, wrong_flash_block, wrong_fls, wrong_cells, meets_copy, copy_overlap_of, copy_overlap_in_fls}
 use Rattle.mt_conf.specs.Outcome.{fls_of, no_fls, fls_or}
 use Rattle.mt_conf.proofs.Tables.{is_table, here, each, both, are_tables, all_mapped}
 use Rattle.mt_conf.proofs.Numbers.{not_false, order, within}

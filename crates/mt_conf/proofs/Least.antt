@@ -1,12 +1,8 @@
 -- The refusal is that of the least rule that is broken.
-use Rattle.std.proofs.Common.{◌≡◌, ℕ, ◌≤◌, ◌<◌, Bool, true, false, cond, List, [], ◌∷◌, ◌++◌, length, All, Option, Some, None, refl, sym, ap, ◌∙◌, rules, arith}
-use Rattle.std.specs.Prelude.{codes}
+use Rattle.std.proofs.Common.{◌≡◌, Bool, true, false, List, [], ◌∷◌, ◌++◌, All, Option, Some, None, refl, sym, ap, ◌∙◌, rules}
 use Rattle.std.specs.List.{AllByRecursion}
 use Rattle.std.proofs.lemmas.List.Elements.{All-from_recursion}
-use Rattle.toml.specs.Data.{Members}
 use Rattle.mt_conf.specs.declared.config.ConfigRefusal.{ConfigRefusal}
-use Rattle.mt_conf.specs.Lookup.{array_at}
-use Rattle.mt_conf.specs.Rules.{wrong_count}
 use Rattle.mt_conf.specs.Outcome.{first_some, first_of, broken}
 use Rattle.mt_conf.specs.Laws.{IsFirst}
 

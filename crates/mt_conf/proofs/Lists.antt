@@ -1,5 +1,5 @@
 -- The data of a value's items as a list.
-use Rattle.std.proofs.Common.{◌≡◌, false, inl, inr, ℕ, ℤ, ◌+◌, ◌<◌, Bool, List, [], ◌∷◌, length, drop, get_or, map, refl, ap, ◌∙◌, sym, String, Global}
+use Rattle.std.proofs.Common.{◌≡◌, false, inl, inr, ℕ, ℤ, ◌+◌, ◌<◌, Bool, List, [], ◌∷◌, length, drop, get_or, map, refl, ap, String, Global}
 use Rattle.std.proofs.lemmas.List.{drop_more}
 use Rattle.std.specs.Prelude.{◌||◌}
 use Rattle.std.specs.List.{list_any}

@@ -1,6 +1,6 @@
 -- A march is refused as the march notation refuses it.
-use Rattle.std.proofs.Common.{◌≡◌, ◌⊎◌, ◌↔◌, ℕ, ◌<◌, ◌≤◌, ◌+◌, List, length, take, Option, Some, None, refl, sym, ap, ◌∙◌, subst, rules, arith, inl, inr}
-use Rattle.mt_march.specs.Grammar.{Begins, IsText, SpellsMarch, IsSpellingPlace}
+use Rattle.std.proofs.Common.{◌≡◌, ◌↔◌, ℕ, ◌<◌, List, Option, Some, None, refl, subst, arith, inl, inr}
+use Rattle.mt_march.specs.Grammar.{IsText, SpellsMarch, IsSpellingPlace}
 use Rattle.mt_march.specs.Machine.{fault}
 use Rattle.mt_march.specs.declared.spelling.Expects.TheVariants.{Brace}
 use Rattle.mt_march.specs.declared.march.Element.{Element}

@@ -1,6 +1,6 @@
 -- Numbers within bounds.
-use Rattle.std.proofs.Common.{◌≡◌, ◌⊎◌, ℕ, ℤ, pos, negsuc, ◌+◌, ◌-◌, ◌<◌, ◌≤◌, ◌^◌, Bool, true, false, cond, refl, sym, ap, ◌∙◌, rules, arith, inl, inr}
-use Rattle.std.specs.Prelude.{not, ◌&&◌, int_lt, int_le, nat_lt, nat_le}
+use Rattle.std.proofs.Common.{◌≡◌, ◌⊎◌, ℕ, ℤ, pos, negsuc, ◌<◌, ◌≤◌, Bool, true, false, refl, ap, arith, inl, inr}
+use Rattle.std.specs.Prelude.{not, ◌&&◌, int_lt, int_le, nat_lt}
 use Rattle.std.proofs.lemmas.Bool.{and_parts, and_cases}
 use Rattle.std.proofs.lemmas.Bool.Decides.{nat_tests}
 use Rattle.mt_conf.specs.Rules.{is_within, small}

@@ -1,9 +1,8 @@
 -- A set that breaks no rule is an accepted one.
-use Rattle.std.proofs.Common.{◌≡◌, ◌⊎◌, ℕ, ℤ, pos, ◌+◌, ◌<◌, ◌≤◌, Bool, true, false, cond, List, [], ◌∷◌, length, map, All, Option, Some, None, refl, sym, subst, ap, ◌∙◌, rules, arith, inl, inr}
-use Rattle.std.specs.Prelude.{codes, not, ◌&&◌, ◌||◌, option_map, nat_le}
+use Rattle.std.proofs.Common.{◌≡◌, ℕ, ℤ, pos, ◌+◌, ◌<◌, ◌≤◌, Bool, true, false, cond, List, [], ◌∷◌, length, map, Option, Some, None, refl, arith, inl, inr}
+use Rattle.std.specs.Prelude.{codes, not, ◌||◌, option_map}
 use Rattle.std.specs.List.{list_all, AllByRecursion}
-use Rattle.std.specs.Str.{bytes_eq}
-use Rattle.std.proofs.lemmas.Bool.{and_parts, or_parts, and_cases}
+use Rattle.std.proofs.lemmas.Bool.{or_parts, and_cases}
 use Rattle.std.proofs.lemmas.Bool.Decides.{nat_tests}
 use Rattle.std.proofs.lemmas.List.{length-map}
 use Rattle.std.proofs.lemmas.List.Elements.{All-from_recursion}
@@ -15,9 +14,7 @@ use Rattle.mt_march.specs.declared.march.MarchRefusal.{MarchRefusal}
 use Rattle.mt_march.specs.Known.{march_c_minus}
 use Rattle.mt_march.specs.Value.{march_of}
 use Rattle.mt_march.specs.Accepted.{IsAcceptedMarch}
-use Rattle.mt_plan.specs.declared.algorithm.Algorithm.{Algorithm}
 use Rattle.mt_plan.specs.declared.algorithm.Algorithm.TheVariants.{Checkerboard, March as Marches, WalkPath, Galpat, TransparentGalpat}
-use Rattle.mt_plan.specs.declared.algorithm.Policy.{Policy}
 use Rattle.mt_plan.specs.declared.algorithm.Policy.TheVariants.{NonDestructive, Destructive}
 use Rattle.mt_plan.specs.Plan.{IsAccepted}
 use Rattle.mt_seq.specs.Sequence.{is_transparent}
@@ -28,10 +25,10 @@ use Rattle.mt_blocks.specs.Accepted.{AreApart, spans_of, IsAcceptedBlock, IsAcce
 use Rattle.mt_conf.specs.declared.config.ConfigRefusal.{ConfigRefusal}
 use Rattle.mt_conf.specs.Lookup.{has_key, number_at, text_at, array_at, fields}
 use Rattle.mt_conf.specs.Rules.{any_block, wrong_in_set, wrong_count_in_set, wrong_algorithm_in_set, transparent_destructive_in_set, is_destructive, wrong_range, overlap_in_set, wrong_cells, is_named, is_count, small}
-use Rattle.mt_conf.specs.Outcome.{march_refusal, march_of_set, first_some, refused_in_set, refused_from, word_of, block_of, march_at, algorithm_at, set_of}
+use Rattle.mt_conf.specs.Outcome.{march_refusal, march_of_set, first_some, refused_in_set, refused_from, block_of, march_at, algorithm_at, set_of}
 use Rattle.mt_conf.proofs.Marches.{march_is_spelled}
 use Rattle.mt_conf.proofs.Words.{word_fits}
-use Rattle.mt_conf.proofs.Tables.{is_table, each, are_tables, all_mapped, mapped}
+use Rattle.mt_conf.proofs.Tables.{is_table, each, are_tables, all_mapped}
 use Rattle.mt_conf.proofs.Numbers.{not_false, cells, order}
 use Rattle.mt_conf.proofs.Apart.{first, last, IsExact, blocks_apart}
 

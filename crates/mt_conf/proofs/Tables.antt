@@ -1,12 +1,12 @@
 -- What a test of the tables of an array says of each.
-use Rattle.std.proofs.Common.{◌≡◌, ℕ, zero, suc, ◌+◌, ◌<◌, ◌≤◌, Bool, true, false, List, [], ◌∷◌, length, map, All, Option, Some, None, refl, sym, ap, ◌∙◌, rules, arith}
+use Rattle.std.proofs.Common.{◌≡◌, ℕ, Bool, true, false, List, [], ◌∷◌, map, All, Option, Some, None, refl}
 use Rattle.std.specs.Prelude.{not, ◌&&◌, is_some, option_and_then}
 use Rattle.std.specs.List.{list_any, list_all, AllByRecursion}
-use Rattle.std.proofs.lemmas.Bool.{and_parts, or_parts, and_cases}
+use Rattle.std.proofs.lemmas.Bool.{and_parts, or_parts}
 use Rattle.std.proofs.lemmas.List.Elements.{All-from_recursion}
-use Rattle.toml.specs.Data.{Data, string, integer, float, boolean, datetime, array, table, Members, no_members, as_table, as_array, get_member}
-use Rattle.mt_conf.specs.Lookup.{has_key, has_array, items_or, array_at, fields}
-use Rattle.mt_conf.specs.Rules.{in_table, in_option, other_type, has_tables}
+use Rattle.toml.specs.Data.{Data, string, integer, float, boolean, datetime, array, table, Members, as_table, as_array, get_member}
+use Rattle.mt_conf.specs.Lookup.{items_or, array_at, fields}
+use Rattle.mt_conf.specs.Rules.{in_table, other_type, has_tables}
 
 abbrev pub is_table : Data → Bool
 is_table d = is_some (as_table d)

@@ -1,21 +1,20 @@
 -- The configuration of a table that breaks no rule is one that the modules take.
-use Rattle.std.proofs.Common.{◌≡◌, ℕ, ℤ, pos, ◌<◌, ◌≤◌, Bool, true, false, List, [], ◌∷◌, length, map, All, Option, Some, None, refl, sym, ap, ◌∙◌, rules, arith}
+use Rattle.std.proofs.Common.{◌≡◌, ℕ, ℤ, pos, ◌≤◌, true, false, List, [], ◌∷◌, length, map, All, None, refl, arith}
 use Rattle.std.specs.Prelude.{codes, not}
-use Rattle.std.specs.List.{list_all, AllByRecursion}
+use Rattle.std.specs.List.{AllByRecursion}
 use Rattle.std.proofs.lemmas.Bool.{or_parts}
 use Rattle.std.proofs.lemmas.Bool.Decides.{nat_tests}
 use Rattle.std.proofs.lemmas.List.{length-map}
 use Rattle.toml.specs.Data.{Data, Members, get_member}
-use Rattle.mt_port.specs.declared.board.Shape.{Shape}
 use Rattle.mt_port.specs.Board.{IsWithinLimits}
 use Rattle.mt_blocks.specs.Accepted.{IsAcceptedSet, IsAcceptedRam, IsAcceptedFls}
 use Rattle.mt_conf.specs.Lookup.{number_at, text_at, array_at, has_table, fields}
-use Rattle.mt_conf.specs.Rules.{other_type, has_tables, any_set, any_block, in_fls, wrong_in_top, wrong_in_set, wrong_in_fls, wrong_type, wrong_size, wrong_count_in_set, wrong_count_in_fls, wrong_count, is_count, wrong_algorithm_in_set, wrong_algorithm, transparent_destructive_in_set, transparent_destructive, wrong_range, wrong_block_range, overlap_in_set, overlap, wrong_cells, wrong_cells_range, wrong_fls, wrong_flash_range, copy_overlap_in_fls, copy_overlap, is_within, small, width_at}
-use Rattle.mt_conf.specs.Outcome.{rules_of, first_broken, refused_march, refused_in_set, word_of, set_of, fls_at, shape_of, config_of}
+use Rattle.mt_conf.specs.Rules.{other_type, has_tables, any_set, any_block, in_fls, wrong_in_top, wrong_in_set, wrong_in_fls, wrong_type, wrong_size, wrong_count_in_set, wrong_count_in_fls, wrong_count, is_count, wrong_algorithm_in_set, wrong_algorithm, transparent_destructive_in_set, transparent_destructive, wrong_range, wrong_block_range, overlap_in_set, overlap, wrong_cells, wrong_cells_range, wrong_fls, wrong_flash_range, copy_overlap_in_fls, copy_overlap, is_within, width_at}
+use Rattle.mt_conf.specs.Outcome.{rules_of, first_broken, refused_march, refused_in_set, set_of, fls_at, shape_of, config_of}
 use Rattle.mt_conf.specs.Accepted.{IsAcceptedConfig}
 use Rattle.mt_conf.proofs.Least.{none_by, holds}
 use Rattle.mt_conf.proofs.Words.{word_fits}
-use Rattle.mt_conf.proofs.Tables.{is_table, each, are_tables, all_mapped}
+use Rattle.mt_conf.proofs.Tables.{each, are_tables, all_mapped}
 use Rattle.mt_conf.proofs.Numbers.{not_false, within}
 use Rattle.mt_conf.proofs.Sets.{SetFacts, none_refused, set_accepted}
 use Rattle.mt_conf.proofs.FlashBlocks.{fls_taken}

@@ -1,5 +1,4 @@
 -- Configurations that the modules take.
-use Rattle.std.specs.Prelude.{ℕ}
 use Rattle.mt_word.specs.Word.{Fits}
 use Rattle.mt_port.specs.Board.{IsWithinLimits}
 use Rattle.mt_blocks.specs.Accepted.{IsAcceptedRam, IsAcceptedFls}

@@ -1,7 +1,6 @@
 -- Laws of readings.
 use Rattle.std.specs.Prelude.{◌≡◌, ◌↔◌, ℕ, List, ◌∷◌, ◌++◌, All, Option, Some, None}
 use Rattle.toml.specs.Data.{Members}
-use Rattle.mt_march.specs.declared.march.Element.{Element}
 use Rattle.mt_march.specs.declared.march.MarchRefusal.{MarchRefusal}
 use Rattle.mt_march.specs.Grammar.{SpellsMarch}
 use Rattle.mt_march.specs.Reading.{Refuses}

@@ -1,7 +1,7 @@
 -- What a text is read as.
-use Rattle.std.specs.Prelude.{◌≡◌, ℕ, ℤ, pos, ◌+◌, ◌-◌, ◌*◌, nat_le, All, ◌++◌, List, [], ◌∷◌, map, codes, Bool, true, false, if◌then◌else◌, Option, Some, None, option_map, Result, Ok, Err}
+use Rattle.std.specs.Prelude.{ℕ, ◌+◌, ◌-◌, ◌*◌, nat_le, ◌++◌, List, [], ◌∷◌, map, codes, Bool, if◌then◌else◌, Option, Some, None, option_map, Result, Ok, Err}
 use Rattle.std.specs.Str.{is_utf8}
-use Rattle.toml.specs.Data.{Data, Members, no_members, get_member}
+use Rattle.toml.specs.Data.{Data, Members, get_member}
 use Rattle.toml.specs.Parse.{parse_document}
 use Rattle.mt_word.specs.declared.Width.{Width}
 use Rattle.mt_march.specs.Machine.{fault}
@@ -15,15 +15,13 @@ use Rattle.mt_march.specs.Reading.{or_else, rule_broken}
 use Rattle.mt_march.specs.Value.{march_of}
 use Rattle.mt_plan.specs.declared.algorithm.Algorithm.{Algorithm}
 use Rattle.mt_plan.specs.declared.algorithm.Algorithm.TheVariants.{Checkerboard, March as Marches, WalkPath, Galpat, TransparentGalpat}
-use Rattle.mt_plan.specs.declared.algorithm.Policy.{Policy}
 use Rattle.mt_plan.specs.declared.algorithm.Policy.TheVariants.{NonDestructive, Destructive}
 use Rattle.mt_port.specs.declared.board.Shape.{Shape}
 use Rattle.mt_blocks.specs.declared.config.Block.{Block}
-use Rattle.mt_blocks.specs.declared.config.FlashBlock.{FlashBlock}
 use Rattle.mt_blocks.specs.declared.config.ParamSet.{ParamSet}
 use Rattle.mt_blocks.specs.declared.config.FlsConfig.{FlsConfig}
 use Rattle.mt_conf.specs.Lookup.{has_key, number_at, text_at, array_at, fields}
-use Rattle.mt_conf.specs.Rules.{unknown_key, missing_key, wrong_type, wrong_version, wrong_width, wrong_size, wrong_word, wrong_count, wrong_algorithm, transparent_destructive, wrong_block_range, overlap, wrong_cells_range, wrong_flash_range, copy_overlap, width_at, is_hex, is_word, is_named, small, flash_block_of}
+use Rattle.mt_conf.specs.Rules.{unknown_key, missing_key, wrong_type, wrong_version, wrong_width, wrong_size, wrong_word, wrong_count, wrong_algorithm, transparent_destructive, wrong_block_range, overlap, wrong_cells_range, wrong_flash_range, copy_overlap, width_at, is_word, is_named, small, flash_block_of}
 use Rattle.mt_conf.specs.declared.config.Config.{Config}
 use Rattle.mt_conf.specs.declared.config.ConfigRefusal.{ConfigRefusal}
 use Rattle.mt_conf.specs.declared.config.ConfigRefusal.TheVariants.{NotToml, UnknownKey, MissingKey, WrongType, Version, Width as BadWidth, Size, Word, Count, Algorithm as BadAlgorithm, March as BadMarch, TransparentDestructive, BlockRange, Overlap, CellsRange, FlashRange, CopyOverlap, NoMemory}

@@ -1,5 +1,5 @@
 -- The rules, each a test of the whole table: true where it is broken.
-use Rattle.std.specs.Prelude.{ℕ, ◌+◌, ◌-◌, ◌/◌, ◌==◌, ℤ, pos, negsuc, int_lt, int_le, nat_lt, nat_le, List, [], ◌∷◌, length, map, codes, Bool, true, false, not, ◌&&◌, ◌||◌, if◌then◌else◌, Option, Some, None, is_none, is_some, unwrap_or, ◌^◌}
+use Rattle.std.specs.Prelude.{ℕ, ◌+◌, ◌-◌, ◌/◌, ◌==◌, ℤ, pos, negsuc, int_lt, int_le, nat_lt, nat_le, List, [], ◌∷◌, length, map, codes, Bool, false, not, ◌&&◌, ◌||◌, if◌then◌else◌, Option, Some, None, is_none, is_some, unwrap_or, ◌^◌}
 use Rattle.std.specs.List.{list_any, list_all}
 use Rattle.std.specs.Ordering.{int_eq}
 use Rattle.std.specs.Str.{bytes_eq}
@@ -8,7 +8,7 @@ use Rattle.mt_word.specs.declared.Width.{Width}
 use Rattle.mt_word.specs.declared.Width.TheVariants.{W8, W16, W32}
 use Rattle.mt_word.specs.Word.{width_bits}
 use Rattle.mt_blocks.specs.declared.config.FlashBlock.{FlashBlock}
-use Rattle.toml.specs.Data.{Data, string, integer, float, boolean, datetime, array, table, Members, no_members, member, as_table, get_member}
+use Rattle.toml.specs.Data.{Data, table, Members, no_members, member, as_table, get_member}
 use Rattle.mt_conf.specs.Lookup.{has_key, has_number, has_text, has_array, has_table, number_at, text_at, array_at}
 
 -- the test holds of a value that is a table

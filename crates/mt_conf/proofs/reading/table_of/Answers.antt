@@ -1,8 +1,7 @@
-use Rattle.std.proofs.Common.{refl, ap, cond, ◌∙◌}
+use Rattle.std.proofs.Common.{refl}
 use Rattle.std.proofs.lemmas.Str.{is_utf8-from_IsUtf8}
 use Rattle.mt_conf.specs.Outcome.{document}
 use Rattle.mt_conf.proofs.Lists.{not_utf8}
-use Rattle.toml.specs.Parse.{parse_document}
 use Rattle.mt_conf.proofs.reading.table_of.Goals as goal
 
 pub returns-in-Err-clause-err : goal.returns-in-Err-clause-err

@@ -1,11 +1,8 @@
-use Rattle.std.proofs.Common.{◌≡◌, ◌<◌, ◌∙◌, Bool, true, false, sym, ap, rules, arith, length, take, get_or, take_all}
+use Rattle.std.proofs.Common.{◌≡◌, ◌∙◌, true, false, sym, ap, take, get_or, take_all}
 use Rattle.std.specs.List.{list_any}
-use Rattle.std.proofs.lemmas.Grind.{common_steps}
 use Rattle.std.proofs.lemmas.List.Folds.{list_any_at, list_any_more}
-use Rattle.toml.specs.Data.{Members}
 use Rattle.toml.specs.View.{view}
 use Rattle.mt_conf.specs.Rules.{in_table}
-use Rattle.mt_conf.specs.Tests.{Tests}
 use Rattle.mt_conf.proofs.Lists.{list_any_map}
 use Rattle.mt_conf.proofs.shape.any_table.Goals as goal
 
