@@ -1,0 +1,12 @@
+use Rattle.std.proofs.Common.{◌≡◌, ◌^◌, ◌<◌, true, drop}
+use Rattle.std.specs.List.{list_all}
+use Rattle.mt_conf.specs.Rules.{is_hex}
+use Rattle.mt_conf.specs.Outcome.{hex}
+use Rattle.mt_conf.proofs.value.hex.Given as goal
+
+abbrev pub invariant-loop-byte : goal.invariant-loop-byte
+invariant-loop-byte l = record {
+  value : hex l.word (drop l.byte-index l.bytes) ≡ hex 0 l.bytes;
+  digits : list_all is_hex (drop l.byte-index l.bytes) ≡ true;
+  small : l.word < 16 ^ l.byte-index;
+}

@@ -1,0 +1,7 @@
+use Rattle.mt_conf.specs.Lookup.{fields}
+use Rattle.mt_conf.specs.Outcome.{set_of}
+use Rattle.mt_conf.proofs.Lists.{map_view}
+use Rattle.mt_conf.proofs.value.sets_in.Goals as goal
+
+pub returns : goal.returns
+returns c = rw (← c.array_at.ensures, ← map_view (λ d. set_of c.args.width (fields d)) c.array_at.result.now) c.sets_of.ensures

@@ -1,0 +1,6 @@
+pub mod Lookup
+pub mod Rules
+pub mod Tests
+pub mod Outcome
+pub mod Accepted
+pub mod Laws
