@@ -7,7 +7,10 @@ use Rattle.mt_port.specs.Board.{Board, Logs}
 use Rattle.mt_port.specs.declared.board.Touch.{Touch}
 use Rattle.mt_port.proofs.StreamLemmas.{Appends-trans}
 use Rattle.mt_fault.specs.declared.fault.Fault.{Fault as MemoryFault}
-use Rattle.mt_replay.specs.declared.config.Config.{Config}
+use Rattle.mt_port.specs.declared.board.Shape.{Shape}
+use Rattle.mt_conf.specs.declared.config.Config.{Config}
+use Rattle.mt_replay.specs.declared.refused.Refused.{Refused}
+use Rattle.mt_replay.specs.declared.refused.Refused.TheVariants as because
 use Rattle.mt_replay.specs.declared.job.Found.{Found}
 use Rattle.mt_replay.specs.declared.job.Found.TheVariants as found
 use Rattle.mt_replay.specs.declared.job.Script.TheVariants as script
@@ -15,11 +18,10 @@ use Rattle.mt_replay.specs.declared.status.Status.{Status}
 use Rattle.mt_replay.specs.declared.status.Status.TheVariants as status
 use Rattle.mt_replay.specs.Input.{Ending, Finished, Failed, Cut, cut, Job, Parted, Whole, job_of}
 use Rattle.mt_replay.specs.Head.{Parts, EndsWith, Exceeds, HeadBreaks, IsTooLong}
-use Rattle.mt_replay.specs.Ram.{Machine}
-use Rattle.mt_replay.specs.Machine.{started}
+use Rattle.mt_replay.specs.Machine.{Machine, started}
 use Rattle.mt_replay.specs.Outcome.{Outcome, Run, ran, bad_config, by_job, outcome, run_script, done_text, read_fault_text}
 use Rattle.mt_replay.specs.Run.{Ends, Breaks, Stops}
-use Rattle.mt_replay.specs.Replay.{outcomes, by_found, HasScript, FoundGives, Begins, BeginsEmpty, HeadFails, Concluded, TakenGive, JobGives, EmptyGives, StatusCaused, Told}
+use Rattle.mt_replay.specs.Replay.{outcomes, IsFound, IsStart, HasScript, FoundGives, Begins, BeginsEmpty, HeadFails, Concluded, TakenGive, JobGives, EmptyGives, StatusCaused, Told}
 use Rattle.mt_replay.proofs.Runs.{change}
 use Rattle.mt_replay.proofs.Texts.{AppendsFront-after, WhereTold-map}
 
@@ -48,9 +50,10 @@ unfolding outcome
 part_is kept x y defect h ending rest = ap (by_job ending defect) (h.job ending rest)
 
 -- the separator was found, and lines may follow
-pub found_follows : (found : Found) (kept x y : List ℕ) → ((ending : Ending) (defect : Option MemoryFault) (lines : Cut) → by_job ending defect (Parted kept lines) ≡ by_found found ending defect lines)
+pub found_follows : (found : Found) (kept x y : List ℕ) → IsFound found kept
     → HasScript script.Follows found → Parts kept x y → FoundGives found x y
-found_follows (found.Refused code) kept x y value same h = λ defect.
+found_follows found.NoMemory kept x y value same h = tt
+found_follows (found.Refused why) kept x y value same h = λ defect.
     ap (outcome Finished defect) h.taken ∙ part_is kept x y defect h Finished y ∙ value Finished defect (cut y)
 found_follows (found.Config c script.Follows) kept x y value same h = record {
   front = h.front;
@@ -64,23 +67,24 @@ unfolding outcome
 end_is given x y defect h = ap (by_job Finished defect) h.job
 
 -- the separator ends the input
-pub found_empty : (found : Found) (kept x y : List ℕ) → ((ending : Ending) (defect : Option MemoryFault) (lines : Cut) → by_job ending defect (Parted kept lines) ≡ by_found found ending defect lines)
+pub found_empty : (found : Found) (kept x y : List ℕ) → IsFound found kept
     → HasScript script.Empty found → EndsWith (Parted kept (record { lines = []; rest = [] })) x y → FoundGives found x y
-found_empty (found.Refused code) kept x y value same h = λ defect. end_is _ x y defect h ∙ value Finished defect (record { lines = []; rest = [] })
+found_empty found.NoMemory kept x y value same h = tt
+found_empty (found.Refused why) kept x y value same h = λ defect. end_is _ x y defect h ∙ value Finished defect (record { lines = []; rest = [] })
 found_empty (found.Config c script.Empty) kept x y value same h = record {
   is = λ defect. end_is _ x y defect h ∙ value Finished defect (record { lines = []; rest = [] });
   all = h.all;
 }
 found_empty (found.Config c script.Follows) kept x y value same h = absurd (follows_or_empty (sym same))
 
-pub found_whole : (kept x y : List ℕ) (code : ℕ) → ((defect : Option MemoryFault) → by_job Finished defect (Whole kept) ≡ bad_config code) → EndsWith (Whole kept) x y → FoundGives (found.Refused code) x y
-found_whole kept x y code value h = λ defect. end_is _ x y defect h ∙ value defect
+pub found_whole : (kept x y : List ℕ) (why : Refused) → ((defect : Option MemoryFault) → by_job Finished defect (Whole kept) ≡ bad_config why) → EndsWith (Whole kept) x y → FoundGives (found.Refused why) x y
+found_whole kept x y why value h = λ defect. end_is _ x y defect h ∙ value defect
 
-long_job : (defect : Option MemoryFault) (given : Job) → IsTooLong given → by_job Finished defect given ≡ bad_config 18
+long_job : (defect : Option MemoryFault) (given : Job) → IsTooLong given → by_job Finished defect given ≡ bad_config (because.Rule 18)
 long_job defect (Parted config lines) h = rw (lt-ltb 65536 (length config) h) refl
 long_job defect (Whole bytes) h = rw (lt-ltb 65536 (length bytes) (omega (arith, h))) refl
 
-pub found_long : (x y : List ℕ) → Exceeds x y → FoundGives (found.Refused 18) x y
+pub found_long : (x y : List ℕ) → Exceeds x y → FoundGives (found.Refused (because.Rule 18)) x y
 unfolding outcome
 found_long x y h = λ defect. ap (outcome Finished defect) h.taken ∙ long_job defect (job_of Finished (h.front ++ y)) (h.long Finished y)
 
@@ -103,38 +107,41 @@ told_after result how text more a b d k k' p (inr t) = inr (t.0, AppendsFront-af
 -- ---- the script
 
 -- what the script gives, what the job gives
-job_is : (c : Config) (defect : Option MemoryFault) (m : Machine) (x y : List ℕ) (t : Begins c x y) (ending : Ending) (rest : List ℕ) → m ≡ started c defect
-    → outcome ending defect (t.front ++ rest) ≡ ran (run_script ending c m 1 (cut rest))
-job_is c defect m x y t ending rest start = t.is ending defect rest ∙ ap (λ (n : Machine). ran (run_script ending c n 1 (cut rest))) (sym start)
+job_is : (shape : Shape) (c : Config) (defect : Option MemoryFault) (m : Machine) (x y : List ℕ) (t : Begins c x y) (ending : Ending) (rest : List ℕ) → IsStart shape c defect m
+    → outcome ending defect (t.front ++ rest) ≡ ran (run_script ending shape m 1 (cut rest))
+job_is shape c defect m x y t ending rest start =
+    t.is ending defect rest
+    ∙ ap (λ (n : Machine). ran (run_script ending c.shape n 1 (cut rest))) (sym start.machine)
+    ∙ ap (λ (s : Shape). ran (run_script ending s m 1 (cut rest))) (sym start.same)
 
-finished_is : (c : Config) (defect : Option MemoryFault) (m : Machine) (x y : List ℕ) → Begins c x y → m ≡ started c defect → outcome Finished defect x ≡ ran (run_script Finished c m 1 (cut y))
-finished_is c defect m x y t start = ap (outcome Finished defect) t.taken ∙ job_is c defect m x y t Finished y start
+finished_is : (shape : Shape) (c : Config) (defect : Option MemoryFault) (m : Machine) (x y : List ℕ) → Begins c x y → IsStart shape c defect m → outcome Finished defect x ≡ ran (run_script Finished shape m 1 (cut y))
+finished_is shape c defect m x y t start = ap (outcome Finished defect) t.taken ∙ job_is shape c defect m x y t Finished y start
 
 behind : (xs ys : List ℕ) → xs ++ ys ≡ [] → ys ≡ []
 behind [] ys n = n
 behind (x ∷ xs) ys n = cc
 
-concluded : (how : Status) (c : Config) (defect : Option MemoryFault) (m : Machine) (before board : Board) (held : List ℕ) (a b left h h' : Option (List ℕ)) (was tape' : Option (List Touch))
-    → m ≡ started c defect → WhereTold a b (Begins c) → Ends c m 1 board how (change b (prepend_known held left) h h' (Some []) tape')
+concluded : (how : Status) (shape : Shape) (c : Config) (defect : Option MemoryFault) (m : Machine) (before board : Board) (held : List ℕ) (a b left h h' : Option (List ℕ)) (was tape' : Option (List Touch))
+    → IsStart shape c defect m → WhereTold a b (Begins c) → Ends shape m 1 board how (change b (prepend_known held left) h h' (Some []) tape')
     → Concluded (outcomes defect) how before board (change a left h h' was tape')
-concluded how c defect m before board held a b left h h' was tape' start begins e = record {
+concluded how shape c defect m before board held a b left h h' was tape' start begins e = record {
   text = e.text;
   after = Some (record { board = board; touches = e.touches });
   written = e.written;
-  outcome = told_through a b held left _ begins e.run (λ x y z t r. finished_is c defect m x y t start ∙ ap ran r);
+  outcome = told_through a b held left _ begins e.run (λ x y z t r. finished_is shape c defect m x y t start ∙ ap ran r);
   board = (refl, e.taped);
 }
 
 -- a script that came to its end
-pub ended_job : (how : Status) (c : Config) (defect : Option MemoryFault) (m : Machine) (before board : Board) (held : List ℕ) (a b left h h' : Option (List ℕ)) (was tape tape' : Option (List Touch))
-    → tape ≡ Some [] → m ≡ started c defect → WhereTold a b (Begins c) → Ends c m 1 board how (change b (prepend_known held left) h h' tape tape')
+pub ended_job : (how : Status) (shape : Shape) (c : Config) (defect : Option MemoryFault) (m : Machine) (before board : Board) (held : List ℕ) (a b left h h' : Option (List ℕ)) (was tape tape' : Option (List Touch))
+    → tape ≡ Some [] → IsStart shape c defect m → WhereTold a b (Begins c) → Ends shape m 1 board how (change b (prepend_known held left) h h' tape tape')
     → JobGives how (outcomes defect) before board (change a left h h' was tape')
-ended_job how c defect m before board held a b left h h' was tape tape' told start begins e =
-    by how (subst (λ (t : Option (List Touch)). Ends c m 1 board how (change b (prepend_known held left) h h' t tape')) told e)
+ended_job how shape c defect m before board held a b left h h' was tape tape' told start begins e =
+    by how (subst (λ (t : Option (List Touch)). Ends shape m 1 board how (change b (prepend_known held left) h h' t tape')) told e)
   where
-    by : (s : Status) → Ends c m 1 board s (change b (prepend_known held left) h h' (Some []) tape') → JobGives s (outcomes defect) before board (change a left h h' was tape')
-    by status.Done e = (concluded status.Done c defect m before board held a b left h h' was tape' start begins e, told_through a b held left _ begins (e.all refl) (λ x y z t n. behind held z n))
-    by (status.BadScript line code place) e = concluded (status.BadScript line code place) c defect m before board held a b left h h' was tape' start begins e
+    by : (s : Status) → Ends shape m 1 board s (change b (prepend_known held left) h h' (Some []) tape') → JobGives s (outcomes defect) before board (change a left h h' was tape')
+    by status.Done e = (concluded status.Done shape c defect m before board held a b left h h' was tape' start begins e, told_through a b held left _ begins (e.all refl) (λ x y z t n. behind held z n))
+    by (status.BadScript line code place) e = concluded (status.BadScript line code place) shape c defect m before board held a b left h h' was tape' start begins e
     by (status.BadConfig code) e = absurd e.plain
     by status.Usage e = absurd e.plain
     by status.ReadFault e = absurd e.plain
@@ -142,19 +149,19 @@ ended_job how c defect m before board held a b left h h' was tape tape' told sta
     by status.NoMemory e = absurd e.plain
 
 -- the bytes that were taken of the configuration and of the script
-broken_is : (c : Config) (defect : Option MemoryFault) (m : Machine) (run : Run) (held x y z : List ℕ) (t : Begins c x y) (front : List ℕ) → m ≡ started c defect → held ≡ [] → y ≡ front ++ (held ++ z)
-    → run_script Failed c m 1 (cut front) ≡ run → TakenGive (outcomes defect) (ran run) x z
-broken_is c defect m run held x y z t front start none taken is = record {
+broken_is : (shape : Shape) (c : Config) (defect : Option MemoryFault) (m : Machine) (run : Run) (held x y z : List ℕ) (t : Begins c x y) (front : List ℕ) → IsStart shape c defect m → held ≡ [] → y ≡ front ++ (held ++ z)
+    → run_script Failed shape m 1 (cut front) ≡ run → TakenGive (outcomes defect) (ran run) x z
+broken_is shape c defect m run held x y z t front start none taken is = record {
   front = t.front ++ front;
   taken = t.taken ∙ ap (λ (l : List ℕ). t.front ++ l) (taken ∙ ap (λ (l : List ℕ). front ++ (l ++ z)) none) ∙ sym (append_assoc t.front front z);
-  is = job_is c defect m x y t Failed front start ∙ ap ran is;
+  is = job_is shape c defect m x y t Failed front start ∙ ap ran is;
 }
 
 -- a script in which the source failed, and the text of that
-pub broken_job : (result : Status) (c : Config) (defect : Option MemoryFault) (m : Machine) (before board : Board) (held : List ℕ) (a b left h h' h'' : Option (List ℕ)) (was tape tape' : Option (List Touch)) (k k' : ℕ)
-    → tape ≡ Some [] → m ≡ started c defect → WhereTold a b (Begins c) → held ≡ [] → Breaks c m 1 board (change b (prepend_known held left) h h' tape tape') → Told result status.ReadFault read_fault_text h' h'' k k'
+pub broken_job : (result : Status) (shape : Shape) (c : Config) (defect : Option MemoryFault) (m : Machine) (before board : Board) (held : List ℕ) (a b left h h' h'' : Option (List ℕ)) (was tape tape' : Option (List Touch)) (k k' : ℕ)
+    → tape ≡ Some [] → IsStart shape c defect m → WhereTold a b (Begins c) → held ≡ [] → Breaks shape m 1 board (change b (prepend_known held left) h h' tape tape') → Told result status.ReadFault read_fault_text h' h'' k k'
     → JobGives result (outcomes defect) before board (change a left h h'' was tape')
-broken_job result c defect m before board held a b left h h' h'' was tape tape' k k' told start begins none e t =
+broken_job result shape c defect m before board held a b left h h' h'' was tape tape' k k' told start begins none e t =
     elim (told_after result status.ReadFault e.text read_fault_text h h' h'' k k' e.written t) [
       | inl w ↦ subst (λ (s : Status). JobGives s (outcomes defect) before board (change a left h h'' was tape')) (sym w.0) (record {
         text = e.text ++ read_fault_text;
@@ -171,16 +178,16 @@ broken_job result c defect m before board held a b left h h' h'' was tape tape' 
     ]
   where
     taken : WhereTold a left (TakenGive (outcomes defect) (record { text = e.text ++ read_fault_text; status = status.ReadFault; after = Some (record { board = board; touches = e.touches }) }))
-    taken = told_through a b held left _ begins e.run (λ x y z t r. broken_is c defect m _ held x y z t r.front start none r.taken r.run)
+    taken = told_through a b held left _ begins e.run (λ x y z t r. broken_is shape c defect m _ held x y z t r.front start none r.taken r.run)
 
 -- a script whose text could not be written in full
-pub stopped_job : (c : Config) (defect : Option MemoryFault) (m : Machine) (before board : Board) (held : List ℕ) (a b left h h' : Option (List ℕ)) (was tape tape' : Option (List Touch))
-    → m ≡ started c defect → WhereTold a b (Begins c) → Stops c m 1 (change b (prepend_known held left) h h' tape tape')
+pub stopped_job : (shape : Shape) (c : Config) (defect : Option MemoryFault) (m : Machine) (before board : Board) (held : List ℕ) (a b left h h' : Option (List ℕ)) (was tape tape' : Option (List Touch))
+    → IsStart shape c defect m → WhereTold a b (Begins c) → Stops shape m 1 (change b (prepend_known held left) h h' tape tape')
     → JobGives status.WriteFault (outcomes defect) before board (change a left h h' was tape')
-stopped_job c defect m before board held a b left h h' was tape tape' start begins e = record {
+stopped_job shape c defect m before board held a b left h h' was tape tape' start begins e = record {
   text = e.text;
   written = e.written;
-  defined = told_through a b held left _ begins e.run (λ x y z t r. inl (r.0, ap (λ (o : Outcome). o.text) (finished_is c defect m x y t start) ∙ r.1));
+  defined = told_through a b held left _ begins e.run (λ x y z t r. inl (r.0, ap (λ (o : Outcome). o.text) (finished_is shape c defect m x y t start) ∙ r.1));
 }
 
 -- ---- the other ends

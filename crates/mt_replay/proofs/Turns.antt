@@ -7,17 +7,20 @@ use Rattle.mt_text.specs.Lines.{line_of}
 use Rattle.mt_text.specs.Trace.{entries_text}
 use Rattle.mt_window.specs.declared.log.Entry.{Entry}
 use Rattle.mt_port.proofs.StreamLemmas.{Appends-trans}
-use Rattle.mt_replay.specs.declared.config.Config.{Config}
+use Rattle.mt_port.specs.declared.board.Shape.{Shape}
 use Rattle.mt_replay.specs.declared.run.Fault.{Fault}
 use Rattle.mt_replay.specs.declared.run.Fault.TheVariants as fault
 use Rattle.mt_replay.specs.declared.run.Turn.{Turn}
 use Rattle.mt_replay.specs.declared.run.Turn.TheVariants as turn
 use Rattle.mt_replay.specs.declared.status.Status.TheVariants as status
-use Rattle.mt_replay.specs.Machine.{Step, step}
-use Rattle.mt_replay.specs.Ram.{Machine}
+use Rattle.mt_replay.specs.Machine.{Machine, Step, step}
 use Rattle.mt_replay.specs.Outcome.{Run, preceded, stepped, answered, judged}
 use Rattle.mt_replay.specs.Events.{Steps}
-use Rattle.mt_replay.specs.Run.{Change, Judging, Answered, CutOff, LineGives, EndGives}
+use Rattle.std.specs.Prelude.{OnOk, OnErr, IfOk}
+use Rattle.std.specs.Io.KnownBytes.{Appends}
+use Rattle.mt_port.specs.Streams.{AppendsFront}
+use Rattle.mt_replay.specs.declared.status.Status.{Status}
+use Rattle.mt_replay.specs.Run.{Change, Judging, Answered, CutOff, SinkCaused, LineGives, EndGives}
 use Rattle.mt_replay.proofs.Texts.{AppendsFront-after, Logs-append}
 
 -- a line that is judged otherwise, but alike
@@ -44,9 +47,9 @@ refused_line (Err fault.Read) judge run m' x same other p = absurd p
 refused_line (Err fault.Write) judge run m' x same other p = record { text = p.text; written = p.written; run = λ follow. (p.more, ap (λ (r : Run). r.text) (same follow) ∙ p.is) }
 
 -- a line that is answered with some entries
-pub answered_line : (c : Config) (m m' : Machine) (number : ℕ) (line : Line) (entries : List Entry) (x : Change) → Steps c m m' line entries x.tape x.tape'
-    → (text : List ℕ) → entries_text c.shape.width number entries ≡ text → Rattle.std.specs.Io.KnownBytes.Appends x.held x.held' text
-    → Answered (stepped c m number (step c m line)) m' x
+pub answered_line : (c : Shape) (m m' : Machine) (number : ℕ) (line : Line) (entries : List Entry) (x : Change) → Steps m m' line entries x.tape x.tape'
+    → (text : List ℕ) → entries_text c.width number entries ≡ text → Rattle.std.specs.Io.KnownBytes.Appends x.held x.held' text
+    → Answered (stepped c m number (step m line)) m' x
 answered_line c m m' number line entries x s text e written = record {
   text = text;
   touches = s.touches;
@@ -56,18 +59,30 @@ answered_line c m m' number line entries x s text e written = record {
 }
 
 -- a line whose entries could not be written in full
-pub fronted_line : (c : Config) (m m' : Machine) (number : ℕ) (line : Line) (entries : List Entry) (x : Change) → Steps c m m' line entries x.tape x.tape'
-    → Rattle.mt_port.specs.Streams.AppendsFront x.held x.held' (entries_text c.shape.width number entries)
-    → CutOff (stepped c m number (step c m line)) x
+pub fronted_line : (c : Shape) (m m' : Machine) (number : ℕ) (line : Line) (entries : List Entry) (x : Change) → Steps m m' line entries x.tape x.tape'
+    → Rattle.mt_port.specs.Streams.AppendsFront x.held x.held' (entries_text c.width number entries)
+    → CutOff (stepped c m number (step m line)) x
 fronted_line c m m' number line entries x s written = record {
-  text = entries_text c.shape.width number entries;
+  text = entries_text c.width number entries;
   written = written;
   run = λ follow. ((follow m').text, ap (λ (o : Option Step). (stepped c m number o follow).text) s.step);
 }
 
+-- a line whose entries were written, or could not be in full
+pub written_line : (r : Result Turn Fault) (c : Shape) (m m' : Machine) (number : ℕ) (line : Line) (entries : List Entry) (x : Change) → Steps m m' line entries x.tape x.tape'
+    → OnOk r (Appends x.held x.held' (entries_text c.width number entries)) → OnErr r (AppendsFront x.held x.held' (entries_text c.width number entries))
+    → IfOk r (λ given. given ≡ turn.More) → (sink sink' : ℕ) → SinkCaused r sink sink' → LineGives r (stepped c m number (step m line)) m' x
+written_line (Ok turn.More) c m m' number line entries x s ok err same sink sink' cause = answered_line c m m' number line entries x s _ refl ok
+written_line (Ok (turn.Ended how)) c m m' number line entries x s ok err same sink sink' cause = absurd (ended how same)
+  where
+    ended : (how : Status) → turn.Ended how ≡ turn.More → ⊥
+    ended how e = cc
+written_line (Err fault.Read) c m m' number line entries x s ok err same sink sink' cause = absurd cause
+written_line (Err fault.Write) c m m' number line entries x s ok err same sink sink' cause = fronted_line c m m' number line entries x s err
+
 -- a line of a number and a length that may be
-pub judged-is : (c : Config) (m : Machine) (number : ℕ) (line : List ℕ) (follow : Machine → Run) → number ≤ 1000000 → length line ≤ 1024
-    → judged c m number line follow ≡ answered c m number (line_of c.shape line) follow
+pub judged-is : (c : Shape) (m : Machine) (number : ℕ) (line : List ℕ) (follow : Machine → Run) → number ≤ 1000000 → length line ≤ 1024
+    → judged c m number line follow ≡ answered c m number (line_of c line) follow
 judged-is c m number line follow few short =
     let one : nat_lt 1000000 number ≡ false = le-ltb _ _ few in
     let two : nat_lt 1024 (length line) ≡ false = le-ltb _ _ short in

@@ -1,8 +1,5 @@
 pub mod Input
 pub mod Status
-pub mod Accepted
-pub mod Configuration
-pub mod Ram
 pub mod Machine
 pub mod Outcome
 pub mod Run

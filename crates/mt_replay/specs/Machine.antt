@@ -1,31 +1,40 @@
--- The machine that a script drives: the board, and the RAM test over it. Each line is one event.
-use Rattle.std.specs.Prelude.{ℕ, ◌≡◌, ◌==◌, false, List, [], ◌∷◌, Option, Some, None, is_some, if◌then◌else◌, slice_set}
+-- The machine that a script drives: the board, and the module RamTst over it. Each line is one event.
+use Rattle.std.specs.Prelude.{ℕ, ◌+◌, ◌≡◌, false, List, [], ◌∷◌, ◌++◌, Option, Some, None, is_some, if◌then◌else◌, length, replicate, slice_set}
+use Rattle.mt_port.specs.declared.board.Shape.{Shape}
 use Rattle.mt_port.specs.declared.board.Touch.{Touch}
 use Rattle.mt_port.specs.declared.request.Request.{Request}
 use Rattle.mt_port.specs.declared.request.AppOp.{AppOp}
-use Rattle.mt_port.specs.declared.request.Answer.{Answer}
-use Rattle.mt_port.specs.declared.request.Answer.TheVariants as answers
 use Rattle.mt_port.specs.Board.{Board, op_words, op_answer, injected, flipped, powered_up}
 use Rattle.mt_fault.specs.declared.fault.Fault.{Fault}
 use Rattle.mt_fault.specs.declared.fault.Spot.{Spot}
+use Rattle.mt_seq.specs.declared.sequence.Verdict.{Verdict}
 use Rattle.mt_window.specs.declared.log.Entry.{Entry}
 use Rattle.mt_window.specs.declared.log.Entry.TheVariants.{Own}
 use Rattle.mt_window.specs.declared.reply.Reply.{Reply}
 use Rattle.mt_window.specs.declared.reply.Reply.TheVariants as reply
-use Rattle.mt_window.specs.declared.reply.Value.TheVariants as value
-use Rattle.mt_window.specs.declared.reply.TestResult.TheVariants as outcome
+use Rattle.mt_window.specs.declared.reply.TestResult.TheVariants.{NotTested}
+use Rattle.mt_window.specs.Serving.{Scene, scene, given}
+use Rattle.mt_window.specs.Events.{Running as Events, Outcome, event as event_of, event_touches}
+use Rattle.mt_blocks.specs.declared.config.RamConfig.{RamConfig}
+use Rattle.mt_blocks.specs.Slices.{Piece}
+use Rattle.mt_blocks.specs.Accepted.{set_at}
+use Rattle.mt_ram.specs.declared.state.State.TheVariants.{Uninit}
+use Rattle.mt_ram.specs.State.{RamTst}
+use Rattle.mt_ram.specs.Table.{Service, Init, DeInit, Allow, Stop, Suspend, Resume, SelectAlgParams, ChangeNumberOfTestedCells, RunFullTest, RunPartialTest, MainFunction, GetTestResultPerBlock, GetTestResult, GetAlgParams, GetTestAlgorithm, GetNumberOfTestedCells, GetExecutionStatus, GetVersionInfo, reply_to, after}
+use Rattle.mt_ram.specs.Event.{ticking, full_test, partial_test}
+use Rattle.mt_conf.specs.declared.config.Config.{Config}
+use Rattle.mt_replay.specs.declared.event.Running.{Running}
+use Rattle.mt_replay.specs.declared.event.Running.TheVariants as calls
 use Rattle.mt_text.specs.declared.line.Event.{Event}
 use Rattle.mt_text.specs.declared.line.Event.TheVariants as event
 use Rattle.mt_text.specs.declared.line.RamCall.{RamCall}
 use Rattle.mt_text.specs.declared.line.RamCall.TheVariants as call
 use Rattle.mt_text.specs.declared.line.Line.{Line}
-use Rattle.mt_window.specs.declared.reply.Refusal.TheVariants as refusal
-use Rattle.mt_replay.specs.Accepted.{IsAccepted}
-use Rattle.mt_replay.specs.Ram.{Machine, IsPlace, run_group, group_at, group_touches, group_hold}
-use Rattle.mt_replay.specs.declared.config.Config.{Config}
-use Rattle.mt_replay.specs.declared.ram.Ram.{Ram}
-use Rattle.mt_replay.specs.declared.ram.State.{State}
-use Rattle.mt_replay.specs.declared.ram.State.TheVariants as state
+
+-- the board, and the module over it
+pub record Machine : Type 0 where
+  pub board : Board
+  pub ram : RamTst
 
 -- what a line makes of the machine, what it enters in the trace, and the test accesses that it makes
 pub record Step : Type 0 where
@@ -39,11 +48,6 @@ replied after reply = record { after = after; entries = Own reply ∷ []; touche
 
 abbrev pub on_board : Machine → Board → Machine
 on_board m board = record { board = board; ram = m.ram }
-
--- the reply to an operation of the application
-abbrev pub given : Answer → Reply
-given answers.Done = reply.Done
-given (answers.Word w) = reply.Value (value.Word w)
 
 abbrev pub operated : Machine → AppOp → Step
 operated m op = replied (on_board m (record (m.board) { words = op_words m.board op })) (given (op_answer m.board op))
@@ -61,92 +65,100 @@ burning m addr word = replied (on_board m (record (m.board) { flash = slice_set 
 abbrev pub flipping : Machine → Spot → Step
 flipping m at = replied (on_board m (record (m.board) { flash = flipped m.board.flash at })) reply.Done
 
--- ---- the RAM test
+-- ---- RamTst
 
--- a service of the RAM test, or a refusal, that leaves a state and answers
-pub record Called : Type 0 where
-  pub ram : Ram
-  pub reply : Reply
+-- a service that is answered at once
+abbrev pub called : Machine → Service → Step
+called m service = replied (record { board = m.board; ram = after m.ram service }) (reply_to m.ram service)
 
--- Init: to Stopped, with nothing tested
-abbrev pub init : Ram → State → Called
-init ram state.Uninit = record { ram = record { state = state.Stopped; result = outcome.NotTested; failed = false }; reply = reply.Done }
-init ram state.Stopped = record { ram = ram; reply = reply.Refused refusal.Status }
-init ram (state.Running k) = record { ram = ram; reply = reply.Refused refusal.Status }
+-- the scene as a running event begins with these requests
+abbrev pub begun : Machine → List Request → Scene RamTst
+begun m requests = scene (record (m.board) { left = requests; taken = 0; count = 0 }) m.ram []
 
--- Allow: to Running, at the pass's start
-abbrev pub allow : Ram → State → Called
-allow ram state.Uninit = record { ram = ram; reply = reply.Refused refusal.Uninit }
-allow ram state.Stopped = record { ram = record { state = state.Running 0; result = ram.result; failed = false }; reply = reply.Done }
-allow ram (state.Running k) = record { ram = ram; reply = reply.Refused refusal.Status }
-
--- the block's result
-abbrev pub block_result : Ram → State → Called
-block_result ram state.Uninit = record { ram = ram; reply = reply.Refused refusal.Uninit }
-block_result ram state.Stopped = record { ram = ram; reply = reply.Value (value.Result ram.result) }
-block_result ram (state.Running k) = record { ram = ram; reply = reply.Value (value.Result ram.result) }
-
--- the services that are there
-abbrev pub by_call : Ram → RamCall → Option Called
-by_call ram call.Init = Some (init ram ram.state)
-by_call ram call.Allow = Some (allow ram ram.state)
-by_call ram (call.GetTestResultPerBlock block) = if block == 0 then Some (block_result ram ram.state) else None
-by_call ram call = None
-
-abbrev pub called : Machine → Option Called → Option Step
-called m None = None
-called m (Some x) = Some (replied (record { board = m.board; ram = x.ram }) x.reply)
-
--- an event begins on the board, with no request, and ends
-abbrev pub begun : Machine → Machine
-begun m = on_board m (record (m.board) { left = []; taken = 0; count = 0 })
-
-abbrev pub ended : Machine → Machine
-ended m = on_board m (record (m.board) { count = 0 })
-
--- a tick runs one group
-abbrev pub tick : Config → Machine → State → Step
-tick c m state.Uninit = replied m (reply.Refused refusal.Uninit)
-tick c m state.Stopped = replied m (reply.Ran 0)
-tick c m (state.Running k) = record {
-  after = ended (run_group c (begun m) k (group_at c k));
-  entries = Own (reply.Ran (group_hold c (group_at c k))) ∷ [];
-  touches = group_touches c (begun m) k (group_at c k);
+-- what the event left, with its own reply entered last
+abbrev pub happened : Outcome RamTst → List Touch → Step
+happened o touches = record {
+  after = record { board = record (o.after.board) { count = 0 }; ram = o.after.callee };
+  entries = o.after.log ++ Own o.reply ∷ [];
+  touches = touches;
 }
 
--- requests are not served yet
-abbrev pub ticked : Config → Machine → List Request → Option Step
-ticked c m [] = Some (tick c m m.ram.state)
-ticked c m (request ∷ more) = None
+abbrev pub running : Events RamTst Piece Verdict → Machine → List Request → Step
+running call m requests = happened (event_of call (begun m requests)) (event_touches call (begun m requests))
+
+-- the running calls, and the other services
+abbrev pub events_of : Running → Events RamTst Piece Verdict
+events_of calls.Tick = ticking
+events_of calls.Full = full_test
+events_of (calls.Partial block) = partial_test block
+
+abbrev pub running_call : RamCall → Option Running
+running_call call.RunFullTest = Some calls.Full
+running_call (call.RunPartialTest block) = Some (calls.Partial block)
+running_call call = None
+
+abbrev pub service_of : RamCall → Service
+service_of call.Init = Init
+service_of call.DeInit = DeInit
+service_of call.Stop = Stop
+service_of call.Allow = Allow
+service_of call.Suspend = Suspend
+service_of call.Resume = Resume
+service_of call.GetExecutionStatus = GetExecutionStatus
+service_of call.GetTestResult = GetTestResult
+service_of (call.GetTestResultPerBlock block) = GetTestResultPerBlock block
+service_of call.GetAlgParams = GetAlgParams
+service_of call.GetTestAlgorithm = GetTestAlgorithm
+service_of call.GetNumberOfTestedCells = GetNumberOfTestedCells
+service_of (call.SelectAlgParams set) = SelectAlgParams set
+service_of (call.ChangeNumberOfTestedCells cells) = ChangeNumberOfTestedCells cells
+service_of call.RunFullTest = RunFullTest
+service_of (call.RunPartialTest block) = RunPartialTest block
+service_of call.GetVersionInfo = GetVersionInfo
+
+abbrev pub by_service : Machine → Service → Option Running → List Request → Step
+by_service m service None requests = called m service
+by_service m service (Some call) requests = running (events_of call) m requests
+
+abbrev pub by_ram : Machine → RamCall → List Request → Step
+by_ram m call requests = by_service m (service_of call) (running_call call) requests
 
 -- what an event does; none, where no module answers it yet
-abbrev pub by_event : Config → Machine → Event → List Request → Option Step
-by_event c m event.Nothing requests = Some (record { after = m; entries = []; touches = [] })
-by_event c m (event.Ram call) requests = called m (by_call m.ram call)
-by_event c m (event.Fls call) requests = None
-by_event c m event.TickRam requests = ticked c m requests
-by_event c m event.TickFls requests = None
-by_event c m (event.App op) requests = Some (operated m op)
-by_event c m (event.Inject fault) requests = Some (injecting m fault)
-by_event c m event.Heal requests = Some (healing m)
-by_event c m (event.Burn addr word) requests = Some (burning m addr word)
-by_event c m (event.Flip at) requests = Some (flipping m at)
+abbrev pub by_event : Machine → Event → List Request → Option Step
+by_event m event.Nothing requests = Some (record { after = m; entries = []; touches = [] })
+by_event m (event.Ram call) requests = Some (by_ram m call requests)
+by_event m (event.Fls call) requests = None
+by_event m event.TickRam requests = Some (running ticking m requests)
+by_event m event.TickFls requests = None
+by_event m (event.App op) requests = Some (operated m op)
+by_event m (event.Inject fault) requests = Some (injecting m fault)
+by_event m event.Heal requests = Some (healing m)
+by_event m (event.Burn addr word) requests = Some (burning m addr word)
+by_event m (event.Flip at) requests = Some (flipping m at)
 
 -- one line
-unfoldable pub step : Config → Machine → Line → Option Step
-step c m line = by_event c m line.event line.requests.items
+unfoldable pub step : Machine → Line → Option Step
+step m line = by_event m line.event line.requests.items
+
+-- the module at the start
+abbrev pub at_start : RamConfig → Shape → RamTst
+at_start config shape = record {
+  setting = record { config = config; shape = shape };
+  state = Uninit;
+  selected = 0;
+  cells = (set_at config.sets 0).cells;
+  results = replicate (length (set_at config.sets 0).blocks) NotTested;
+  failed = false;
+  mark = false;
+}
 
 -- the machine at the start, on a board with a defect or none
 abbrev pub started : Config → Option Fault → Machine
-started c defect = record {
-  board = powered_up c.shape 0 defect;
-  ram = record { state = state.Uninit; result = outcome.NotTested; failed = false };
-}
+started c defect = record { board = powered_up c.shape c.initial defect; ram = at_start c.ram_tst c.shape }
 
--- Between two lines the board has the configuration's shape, nothing is held, and no request is left.
-pub record IsReady (c : Config) (m : Machine) : Type 0 where
-  pub accepted : IsAccepted c
-  pub shape : m.board.shape ≡ c.shape
+-- Between two lines the board and the module have this shape, nothing is held, and no request is left.
+pub record IsReady (common : Shape) (m : Machine) : Type 0 where
+  pub shape : m.board.shape ≡ common
+  pub setting : m.ram.setting.shape ≡ common
   pub free : m.board.held ≡ false
   pub none : m.board.left ≡ []
-  pub place : IsPlace c m.ram.state

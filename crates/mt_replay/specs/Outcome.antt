@@ -10,13 +10,19 @@ use Rattle.mt_text.specs.declared.line.LineKind.TheVariants.{Spelling, Number, A
 use Rattle.mt_text.specs.declared.line.LineRefusal.{LineRefusal}
 use Rattle.mt_text.specs.Lines.{line_of}
 use Rattle.mt_text.specs.Trace.{entries_text}
-use Rattle.mt_replay.specs.declared.config.Config.{Config}
+use Rattle.mt_port.specs.declared.board.Shape.{Shape}
 use Rattle.mt_replay.specs.declared.status.Status.{Status}
 use Rattle.mt_replay.specs.declared.status.Status.TheVariants as status
-use Rattle.mt_replay.specs.Configuration.{config_of}
+use Rattle.mt_march.specs.declared.march.MarchKind.{MarchKind}
+use Rattle.mt_march.specs.declared.march.MarchKind.TheVariants as march
+use Rattle.mt_conf.specs.declared.config.Config.{Config}
+use Rattle.mt_conf.specs.declared.config.ConfigRefusal.{ConfigRefusal}
+use Rattle.mt_conf.specs.declared.config.ConfigRefusal.TheVariants.{March}
+use Rattle.mt_conf.specs.Outcome.{outcome as config_of, number_of}
+use Rattle.mt_replay.specs.declared.refused.Refused.{Refused}
+use Rattle.mt_replay.specs.declared.refused.Refused.TheVariants as because
 use Rattle.mt_replay.specs.Input.{Ending, Finished, Failed, Cut, Job, Parted, Whole, job_of}
-use Rattle.mt_replay.specs.Machine.{Step, step, started}
-use Rattle.mt_replay.specs.Ram.{Machine}
+use Rattle.mt_replay.specs.Machine.{Machine, Step, step, started}
 
 -- how a script ends: its text, its test accesses, its status, and the board after it
 pub record Run : Type 0 where
@@ -49,9 +55,27 @@ read_fault_text = codes "read fault\n"
 abbrev pub read_fault : Machine → Run
 read_fault m = closed m read_fault_text status.ReadFault
 
--- the text of a refused configuration
-abbrev pub bad_config_text : ℕ → List ℕ
-bad_config_text code = codes "bad config " ++ decimal code ++ codes "\n"
+-- the numbers of the rules of marches
+abbrev pub march_number : MarchKind → ℕ
+march_number march.Spelling = 1
+march_number march.TooLong = 2
+march_number march.ReadBeforeWrite = 3
+march_number march.WrongExpectation = 4
+march_number march.OneValueOnly = 5
+
+-- why a configuration is refused, as it is told
+abbrev pub refused_of : ConfigRefusal → Refused
+refused_of (March set kind place) = because.March set (march_number kind) place
+refused_of refusal = because.Rule (number_of refusal)
+
+-- the rule's number, and the text of a refused configuration
+abbrev pub rule_number : Refused → ℕ
+rule_number (because.Rule code) = code
+rule_number (because.March set kind place) = 11
+
+abbrev pub bad_config_text : Refused → List ℕ
+bad_config_text (because.Rule code) = codes "bad config " ++ decimal code ++ codes "\n"
+bad_config_text (because.March set kind place) = codes "bad config 11 " ++ decimal set ++ codes " " ++ decimal kind ++ codes " " ++ decimal place ++ codes "\n"
 
 -- a text and test accesses in front
 abbrev pub preceded : List ℕ → List Touch → Run → Run
@@ -70,22 +94,22 @@ kind_number NotInHandler = 8
 kind_number FaultRefused = 9
 
 -- a line has its entries, and then what follows; a line that no module answers yet is refused
-abbrev pub stepped : Config → Machine → ℕ → Option Step → (Machine → Run) → Run
+abbrev pub stepped : Shape → Machine → ℕ → Option Step → (Machine → Run) → Run
 stepped c m number None follow = refused m number 1 1
-stepped c m number (Some s) follow = preceded (entries_text c.shape.width number s.entries) s.touches (follow s.after)
+stepped c m number (Some s) follow = preceded (entries_text c.width number s.entries) s.touches (follow s.after)
 
-abbrev pub answered : Config → Machine → ℕ → Result Line LineRefusal → (Machine → Run) → Run
+abbrev pub answered : Shape → Machine → ℕ → Result Line LineRefusal → (Machine → Run) → Run
 answered c m number (Err refusal) follow = refused m number (kind_number refusal.kind) refusal.place
-answered c m number (Ok line) follow = stepped c m number (step c m line) follow
+answered c m number (Ok line) follow = stepped c m number (step m line) follow
 
 -- a line: beyond the last that may be, too long, refused, or answered
-abbrev pub judged : Config → Machine → ℕ → List ℕ → (Machine → Run) → Run
+abbrev pub judged : Shape → Machine → ℕ → List ℕ → (Machine → Run) → Run
 judged c m number line follow =
     if nat_lt 1000000 number then refused m number 11 1
-    else (if nat_lt 1024 (length line) then refused m number 10 1025 else answered c m number (line_of c.shape line) follow)
+    else (if nat_lt 1024 (length line) then refused m number 10 1025 else answered c m number (line_of c line) follow)
 
 -- A last line without a line feed counts where it has a byte. Before a failure of the source it is judged only where it is refused whatever comes.
-abbrev pub last_judged : Ending → Config → Machine → ℕ → List ℕ → Run
+abbrev pub last_judged : Ending → Shape → Machine → ℕ → List ℕ → Run
 last_judged Finished c m number [] = done m (number - 1)
 last_judged Finished c m number (byte ∷ bytes) = judged c m number (byte ∷ bytes) (λ after. done after number)
 last_judged Failed c m number [] = read_fault m
@@ -94,12 +118,12 @@ last_judged Failed c m number (byte ∷ bytes) =
     else (if nat_lt 1024 (length (byte ∷ bytes)) then refused m number 10 1025 else read_fault m)
 
 -- the lines from a number on, in order; a refused line ends the run
-abbrev pub run_lines : Ending → Config → Machine → ℕ → List (List ℕ) → List ℕ → Run
+abbrev pub run_lines : Ending → Shape → Machine → ℕ → List (List ℕ) → List ℕ → Run
 run_lines ending c m number [] rest = last_judged ending c m number rest
 run_lines ending c m number (line ∷ more) rest = judged c m number line (λ after. run_lines ending c after (number + 1) more rest)
 
 -- the script that some bytes are
-abbrev pub run_script : Ending → Config → Machine → ℕ → Cut → Run
+abbrev pub run_script : Ending → Shape → Machine → ℕ → Cut → Run
 run_script ending c m number script = run_lines ending c m number script.lines script.rest
 
 -- ---- a whole job
@@ -118,19 +142,19 @@ pub record Outcome : Type 0 where
 abbrev pub ran : Run → Outcome
 ran run = record { text = run.text; status = run.status; after = Some (record { board = run.board; touches = run.touches }) }
 
-abbrev pub bad_config : ℕ → Outcome
-bad_config code = record { text = bad_config_text code; status = status.BadConfig code; after = None }
+abbrev pub bad_config : Refused → Outcome
+bad_config why = record { text = bad_config_text why; status = status.BadConfig (rule_number why); after = None }
 
 -- the configuration decides, and then the script
-abbrev pub configured : Ending → Option Fault → Option Config → Cut → Outcome
-configured ending defect None script = bad_config 1
-configured ending defect (Some c) script = ran (run_script ending c (started c defect) 1 script)
+abbrev pub configured : Ending → Option Fault → Result Config ConfigRefusal → Cut → Outcome
+configured ending defect (Err refusal) script = bad_config (refused_of refusal)
+configured ending defect (Ok c) script = ran (run_script ending c.shape (started c defect) 1 script)
 
 -- a configuration that is too long is refused first; then one without a separator, where the input ended; where the source failed, that is told
 abbrev pub by_job : Ending → Option Fault → Job → Outcome
-by_job ending defect (Parted config script) = if nat_lt 65536 (length config) then bad_config 18 else configured ending defect (config_of config) script
-by_job Finished defect (Whole bytes) = if nat_lt 65536 (length bytes) then bad_config 18 else bad_config 19
-by_job Failed defect (Whole bytes) = if nat_le 65542 (length bytes) then bad_config 18 else record { text = read_fault_text; status = status.ReadFault; after = None }
+by_job ending defect (Parted config script) = if nat_lt 65536 (length config) then bad_config (because.Rule 18) else configured ending defect (config_of config) script
+by_job Finished defect (Whole bytes) = if nat_lt 65536 (length bytes) then bad_config (because.Rule 18) else bad_config (because.Rule 19)
+by_job Failed defect (Whole bytes) = if nat_le 65542 (length bytes) then bad_config (because.Rule 18) else record { text = read_fault_text; status = status.ReadFault; after = None }
 
 -- what some bytes give on a board with a defect or none
 unfoldable pub outcome : Ending → Option Fault → List ℕ → Outcome

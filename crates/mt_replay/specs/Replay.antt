@@ -8,18 +8,20 @@ use Rattle.mt_port.specs.Streams.{AppendsFront, WhereTold}
 use Rattle.mt_port.specs.Board.{Board, Logs}
 use Rattle.mt_port.specs.declared.board.Touch.{Touch}
 use Rattle.mt_fault.specs.declared.fault.Fault.{Fault}
-use Rattle.mt_replay.specs.declared.config.Config.{Config}
+use Rattle.mt_port.specs.declared.board.Shape.{Shape}
+use Rattle.mt_conf.specs.declared.config.Config.{Config}
+use Rattle.mt_conf.specs.Accepted.{IsAcceptedConfig}
+use Rattle.mt_replay.specs.declared.refused.Refused.{Refused}
 use Rattle.mt_replay.specs.declared.job.Found.{Found}
 use Rattle.mt_replay.specs.declared.job.Found.TheVariants as found
 use Rattle.mt_replay.specs.declared.job.Script.{Script}
 use Rattle.mt_replay.specs.declared.job.Script.TheVariants as script
 use Rattle.mt_replay.specs.declared.status.Status.{Status}
 use Rattle.mt_replay.specs.declared.status.Status.TheVariants as status
-use Rattle.mt_replay.specs.Accepted.{IsAccepted}
-use Rattle.mt_replay.specs.Input.{Ending, Finished, Failed, Cut, cut}
+use Rattle.mt_replay.specs.Input.{Ending, Finished, Failed, Cut, cut, Parted}
 use Rattle.mt_replay.specs.Run.{Change}
-use Rattle.mt_replay.specs.Machine.{started}
-use Rattle.mt_replay.specs.Outcome.{After, Outcome, ran, bad_config, done, done_text, run_script, outcome, read_fault_text}
+use Rattle.mt_replay.specs.Machine.{Machine, started}
+use Rattle.mt_replay.specs.Outcome.{After, Outcome, ran, bad_config, done, done_text, run_script, by_job, outcome, read_fault_text}
 
 -- the words that ask for a replay
 abbrev pub is_run : List (String Global) → Bool
@@ -110,25 +112,34 @@ Replays false result given old new x sink sink' =
 
 -- ---- between the two
 
--- what a configuration that was read gives with its script
-abbrev pub by_found : Found → Ending → Option Fault → Cut → Outcome
-by_found (found.Refused code) ending defect lines = bad_config code
-by_found (found.Config c script) ending defect lines = ran (run_script ending c (started c defect) 1 lines)
+-- a configuration that was read is what its bytes are, whatever script follows
+abbrev pub IsFound : Found → List ℕ → Type 0
+IsFound found.NoMemory kept = Unit {0}
+IsFound (found.Refused why) kept = (ending : Ending) (defect : Option Fault) (lines : Cut) → by_job ending defect (Parted kept lines) ≡ bad_config why
+IsFound (found.Config c script) kept =
+    (ending : Ending) (defect : Option Fault) (lines : Cut) → by_job ending defect (Parted kept lines) ≡ ran (run_script ending c.shape (started c defect) 1 lines)
 
 -- a configuration comes with this script
 abbrev pub HasScript : Script → Found → Type 0
-HasScript script (found.Refused code) = Unit {0}
+HasScript script found.NoMemory = Unit {0}
+HasScript script (found.Refused why) = Unit {0}
 HasScript script (found.Config c given) = given ≡ script
 
 abbrev pub IsAcceptedFound : Found → Type 0
-IsAcceptedFound (found.Refused code) = Unit {0}
-IsAcceptedFound (found.Config c script) = IsAccepted c
+IsAcceptedFound found.NoMemory = Unit {0}
+IsAcceptedFound (found.Refused why) = Unit {0}
+IsAcceptedFound (found.Config c script) = IsAcceptedConfig c
+
+-- a machine of this shape is that of the start
+pub record IsStart (shape : Shape) (c : Config) (defect : Option Fault) (m : Machine) : Type 0 where
+  pub machine : m ≡ started c defect
+  pub same : shape ≡ c.shape
 
 -- The configuration was taken, and the bytes behind it are its script.
 pub record Begins (c : Config) (before after : List ℕ) : Type 0 where
   pub front : List ℕ
   pub taken : before ≡ front ++ after
-  pub is : (ending : Ending) (defect : Option Fault) (rest : List ℕ) → outcome ending defect (front ++ rest) ≡ ran (run_script ending c (started c defect) 1 (cut rest))
+  pub is : (ending : Ending) (defect : Option Fault) (rest : List ℕ) → outcome ending defect (front ++ rest) ≡ ran (run_script ending c.shape (started c defect) 1 (cut rest))
 
 -- The input ended with the configuration's separator.
 pub record BeginsEmpty (c : Config) (before after : List ℕ) : Type 0 where
@@ -136,7 +147,8 @@ pub record BeginsEmpty (c : Config) (before after : List ℕ) : Type 0 where
   pub all : after ≡ []
 
 abbrev pub FoundGives : Found → (before after : List ℕ) → Type 0
-FoundGives (found.Refused code) before after = (defect : Option Fault) → outcome Finished defect before ≡ bad_config code
+FoundGives found.NoMemory before after = Unit {0}
+FoundGives (found.Refused why) before after = (defect : Option Fault) → outcome Finished defect before ≡ bad_config why
 FoundGives (found.Config c script.Follows) before after = Begins c before after
 FoundGives (found.Config c script.Empty) before after = BeginsEmpty c before after
 

@@ -5,22 +5,22 @@ ghost use Rattle.std.specs.Io.KnownBytes.{prepend_known, Appends};
 ghost use Rattle.mt_port.specs.Causes.{HasCause};
 ghost use Rattle.mt_port.specs.Streams.{AppendsFront, WhereTold};
 ghost use Rattle.mt_text.specs.Accepted.{IsAccepted as IsAcceptedLine};
-ghost use Rattle.mt_replay.specs.Machine.{IsReady, step};
-ghost use Rattle.mt_replay.specs.Ram.{Machine};
+ghost use Rattle.mt_text.specs.Trace.{entries_text};
+ghost use Rattle.mt_replay.specs.Machine.{Machine, IsReady, step};
 ghost use Rattle.mt_replay.specs.Outcome.{done_text, refused_text, kind_number, done, refused, stepped, judged};
 ghost use Rattle.mt_replay.specs.Events.{AnswerGives};
 ghost use Rattle.mt_replay.specs.Run.{Caused, SinkCaused, LineGives, EndGives, TurnGives, ScriptGives};
 
-use crate::config::Config;
 use crate::event::{Answer, perform};
 use crate::input::{Input, Line as Reading, LineText};
-use crate::ram::Ram;
 use crate::status::Status;
 use crate::text::{Text, done_text, refused_text};
 use arrayvec::ArrayVec;
-use mt_port::{Bench, Sink, Source, put};
+use mt_port::{Bench, Shape, Sink, Source, put};
+use mt_ram::Ram;
 use mt_text::{Line, LineKind, read_line, write_entry};
-use mt_window::Entry;
+use mt_window::{Entry, EventLog, Reply};
+use mt_word::Width;
 
 /// A source or a sink failed.
 #[derive(Clone, Copy, Debug, PartialEq, Eq)]
@@ -110,75 +110,113 @@ fn refuse_turn<K: Sink>(sink: &mut K, line: u32, code: u8, place: u32) -> Result
     Ok(Turn::Ended(refuse(sink, line, code, place)?))
 }
 
+// Writes the trace lines of some entries.
+fn write_entries<K: Sink>(
+    sink: &mut K,
+    entries: &[Entry],
+    width: Width,
+    number: u32,
+) -> Result<(), Fault>
+    ensures ok { OnOk result (Appends (K.held sink.old) (K.held sink.new) (entries_text width number entries.now)) }
+    ensures err { OnErr result (AppendsFront (K.held sink.old) (K.held sink.new) (entries_text width number entries.now)) }
+    ensures cause { SinkCaused result (K.faults sink.old) (K.faults sink.new) }
+{
+    for entry in entries {
+        match write_entry(number, entry, width, sink) {
+            Ok(()) => {}
+            Err(_) => return Err(Fault::Write),
+        }
+    }
+    Ok(())
+}
+
+// Writes what was entered in the log, and then the line's own reply.
+fn write_answer<K: Sink>(
+    sink: &mut K,
+    log: &[Entry],
+    reply: Reply,
+    width: Width,
+    number: u32,
+) -> Result<Turn, Fault>
+    ensures ok { OnOk result (Appends (K.held sink.old) (K.held sink.new) (entries_text width number (log.now ++ Entry.Own reply ∷ []))) }
+    ensures err { OnErr result (AppendsFront (K.held sink.old) (K.held sink.new) (entries_text width number (log.now ++ Entry.Own reply ∷ []))) }
+    ensures same { IfOk result (λ turn. turn ≡ Turn.More) }
+    ensures cause { SinkCaused result (K.faults sink.old) (K.faults sink.new) }
+{
+    match write_entries(sink, log, width, number) {
+        Ok(()) => match write_entry(number, &Entry::Own(reply), width, sink) {
+            Ok(()) => Ok(Turn::More),
+            Err(_) => Err(Fault::Write),
+        },
+        Err(fault) => Err(fault),
+    }
+}
+
 // Does what an accepted line asks for, and writes its entries.
 fn answer_line<K: Sink, B: Bench>(
-    config: &Config,
+    shape: Shape,
     ram: &mut Ram,
     board: &mut B,
     sink: &mut K,
-    line: &Line,
+    line: Line,
     number: u32,
 ) -> Result<Turn, Fault>
-    requires ready { IsReady config.now (record { board = B.state board.old; ram = ram.old }) }
-    requires line { IsAcceptedLine config.now.shape line.now }
-    ensures ready { IsReady config.now (record { board = B.state board.new; ram = ram.new }) }
-    ensures gives { LineGives result (stepped config.now (record { board = B.state board.old; ram = ram.old }) number (step config.now (record { board = B.state board.old; ram = ram.old }) line.now)) (record { board = B.state board.new; ram = ram.new })
+    requires ready { IsReady shape (record { board = B.state board.old; ram = ram.old }) }
+    requires line { IsAcceptedLine shape line }
+    ensures ready { IsReady shape (record { board = B.state board.new; ram = ram.new }) }
+    ensures gives { LineGives result (stepped shape (record { board = B.state board.old; ram = ram.old }) number (step (record { board = B.state board.old; ram = ram.old }) line)) (record { board = B.state board.new; ram = ram.new })
         (record { left = None; left' = None; held = K.held sink.old; held' = K.held sink.new; tape = B.tape board.old; tape' = B.tape board.new }) }
     ensures cause { SinkCaused result (K.faults sink.old) (K.faults sink.new) }
 {
-    match perform(config, ram, board, line) {
+    let mut log = EventLog::new();
+    match perform(ram, board, line, &mut log) {
         Answer::Silent => Ok(Turn::More),
-        Answer::Own(reply) => {
-            match write_entry(number, &Entry::Own(reply), config.shape.width, sink) {
-                Ok(()) => Ok(Turn::More),
-                Err(_) => Err(Fault::Write),
-            }
-        }
+        Answer::Own(reply) => write_answer(sink, log.entries(), reply, shape.width, number),
         Answer::Unknown => refuse_turn(sink, number, 1, 1),
     }
 }
 
 // Reads the text of a line, and does what it asks for.
 fn judge_line<K: Sink, B: Bench>(
-    config: &Config,
+    shape: Shape,
     ram: &mut Ram,
     board: &mut B,
     sink: &mut K,
     text: &[u8],
     number: u32,
 ) -> Result<Turn, Fault>
-    requires ready { IsReady config.now (record { board = B.state board.old; ram = ram.old }) }
+    requires ready { IsReady shape (record { board = B.state board.old; ram = ram.old }) }
     requires short { length text.now ≤ 1024 }
     requires few { number ≤ 1000000 }
-    ensures ready { IsReady config.now (record { board = B.state board.new; ram = ram.new }) }
-    ensures gives { LineGives result (judged config.now (record { board = B.state board.old; ram = ram.old }) number text.now) (record { board = B.state board.new; ram = ram.new })
+    ensures ready { IsReady shape (record { board = B.state board.new; ram = ram.new }) }
+    ensures gives { LineGives result (judged shape (record { board = B.state board.old; ram = ram.old }) number text.now) (record { board = B.state board.new; ram = ram.new })
         (record { left = None; left' = None; held = K.held sink.old; held' = K.held sink.new; tape = B.tape board.old; tape' = B.tape board.new }) }
     ensures cause { SinkCaused result (K.faults sink.old) (K.faults sink.new) }
 {
-    match read_line(text, config.shape) {
-        Ok(line) => answer_line(config, ram, board, sink, &line, number),
+    match read_line(text, shape) {
+        Ok(line) => answer_line(shape, ram, board, sink, line, number),
         Err(refusal) => refuse_turn(sink, number, kind_number(refusal.kind), refusal.place),
     }
 }
 
 // The last line, which has no line feed.
 fn last_line<K: Sink, B: Bench>(
-    config: &Config,
+    shape: Shape,
     ram: &mut Ram,
     board: &mut B,
     sink: &mut K,
     text: &[u8],
     number: u32,
 ) -> Result<Turn, Fault>
-    requires ready { IsReady config.now (record { board = B.state board.old; ram = ram.old }) }
+    requires ready { IsReady shape (record { board = B.state board.old; ram = ram.old }) }
     requires short { length text.now ≤ 1024 }
     requires few { number ≤ 1000000 }
-    ensures ready { IsReady config.now (record { board = B.state board.new; ram = ram.new }) }
-    ensures gives { EndGives result (judged config.now (record { board = B.state board.old; ram = ram.old }) number text.now (λ after. done after number)) (record { board = B.state board.new; ram = ram.new })
+    ensures ready { IsReady shape (record { board = B.state board.new; ram = ram.new }) }
+    ensures gives { EndGives result (judged shape (record { board = B.state board.old; ram = ram.old }) number text.now (λ after. done after number)) (record { board = B.state board.new; ram = ram.new })
         (record { left = None; left' = None; held = K.held sink.old; held' = K.held sink.new; tape = B.tape board.old; tape' = B.tape board.new }) }
     ensures cause { SinkCaused result (K.faults sink.old) (K.faults sink.new) }
 {
-    match judge_line(config, ram, board, sink, text, number) {
+    match judge_line(shape, ram, board, sink, text, number) {
         Ok(Turn::More) => finish_turn(sink, number),
         Ok(Turn::Ended(status)) => Ok(Turn::Ended(status)),
         Err(fault) => Err(fault),
@@ -187,7 +225,7 @@ fn last_line<K: Sink, B: Bench>(
 
 // Runs the next line, or ends the script.
 fn run_line<S: Source, K: Sink, B: Bench>(
-    config: &Config,
+    shape: Shape,
     ram: &mut Ram,
     board: &mut B,
     input: &mut Input,
@@ -195,11 +233,11 @@ fn run_line<S: Source, K: Sink, B: Bench>(
     sink: &mut K,
     number: u32,
 ) -> Result<Turn, Fault>
-    requires ready { IsReady config.now (record { board = B.state board.old; ram = ram.old }) }
+    requires ready { IsReady shape (record { board = B.state board.old; ram = ram.old }) }
     requires first { 1 ≤ number }
     requires few { number ≤ 1000000 }
-    ensures ready { IsReady config.now (record { board = B.state board.new; ram = ram.new }) }
-    ensures gives { TurnGives result config.now (record { board = B.state board.old; ram = ram.old }) (record { board = B.state board.new; ram = ram.new }) number
+    ensures ready { IsReady shape (record { board = B.state board.new; ram = ram.new }) }
+    ensures gives { TurnGives result shape (record { board = B.state board.old; ram = ram.old }) (record { board = B.state board.new; ram = ram.new }) number
         (record { left = prepend_known input.old (S.left source.old); left' = prepend_known input.new (S.left source.new); held = K.held sink.old; held' = K.held sink.new; tape = B.tape board.old; tape' = B.tape board.new }) }
     ensures none { result ≡ Err Fault.Read → input.new ≡ [] }
     ensures cause { Caused result (S.faults source.old) (S.faults source.new) (K.faults sink.old) (K.faults sink.new) }
@@ -209,8 +247,8 @@ fn run_line<S: Source, K: Sink, B: Bench>(
         return Err(Fault::Read);
     };
     match reading {
-        Reading::Whole => judge_line(config, ram, board, sink, &text, number),
-        Reading::Last => last_line(config, ram, board, sink, &text, number),
+        Reading::Whole => judge_line(shape, ram, board, sink, &text, number),
+        Reading::Last => last_line(shape, ram, board, sink, &text, number),
         Reading::End => finish_turn(sink, number - 1),
         Reading::TooLong => refuse_turn(sink, number, 10, 1025),
     }
@@ -237,22 +275,22 @@ fn run_past<S: Source, K: Sink>(
 
 /// Runs the lines that the source has left, and writes their trace.
 pub fn run_script<S: Source, K: Sink, B: Bench>(
-    config: &Config,
+    shape: Shape,
     ram: &mut Ram,
     board: &mut B,
     input: &mut Input,
     source: &mut S,
     sink: &mut K,
 ) -> Result<Status, Fault>
-    requires { IsReady config.now (record { board = B.state board.old; ram = ram.old }) }
-    ensures ready { IsReady config.now (record { board = B.state board.new; ram = ram.new }) }
-    ensures gives { ScriptGives result config.now (record { board = B.state board.old; ram = ram.old }) (record { board = B.state board.new; ram = ram.new }) 1
+    requires { IsReady shape (record { board = B.state board.old; ram = ram.old }) }
+    ensures ready { IsReady shape (record { board = B.state board.new; ram = ram.new }) }
+    ensures gives { ScriptGives result shape (record { board = B.state board.old; ram = ram.old }) (record { board = B.state board.new; ram = ram.new }) 1
         (record { left = prepend_known input.old (S.left source.old); left' = prepend_known input.new (S.left source.new); held = K.held sink.old; held' = K.held sink.new; tape = B.tape board.old; tape' = B.tape board.new }) }
     ensures none { result ≡ Err Fault.Read → input.new ≡ [] }
     ensures cause { Caused result (S.faults source.old) (S.faults source.new) (K.faults sink.old) (K.faults sink.new) }
 {
     for number in 1..=1_000_000 {
-        match run_line(config, ram, board, input, source, sink, number) {
+        match run_line(shape, ram, board, input, source, sink, number) {
             Ok(Turn::More) => {}
             Ok(Turn::Ended(status)) => return Ok(status),
             Err(fault) => return Err(fault),

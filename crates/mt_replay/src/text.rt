@@ -3,6 +3,7 @@
 ghost use Rattle.std.specs.Prelude.{◌≡◌, codes, ◌++◌};
 ghost use Rattle.mt_replay.specs.Outcome.{done_text, refused_text, bad_config_text};
 
+use crate::refused::Refused;
 use arrayvec::ArrayVec;
 use mt_text::{push_bytes, push_number};
 
@@ -35,13 +36,38 @@ pub fn refused_text(line: u32, code: u8, place: u32) -> Text
     text
 }
 
-/// The line of a refused configuration.
-pub fn bad_config_text(code: u8) -> Text
-    ensures { result.items ≡ bad_config_text code }
+// The line of a refused rule.
+fn rule_text(code: u8) -> Text
+    ensures { result.items ≡ bad_config_text (Refused.Rule code) }
 {
     let mut text = ArrayVec::new();
     push_bytes(&mut text, b"bad config ");
     push_number(&mut text, u32::from(code));
     push_bytes(&mut text, b"\n");
     text
+}
+
+// The line of a refused march.
+fn march_text(set: u32, kind: u8, place: u32) -> Text
+    ensures { result.items ≡ bad_config_text (Refused.March set kind place) }
+{
+    let mut text = ArrayVec::new();
+    push_bytes(&mut text, b"bad config 11 ");
+    push_number(&mut text, set);
+    push_bytes(&mut text, b" ");
+    push_number(&mut text, u32::from(kind));
+    push_bytes(&mut text, b" ");
+    push_number(&mut text, place);
+    push_bytes(&mut text, b"\n");
+    text
+}
+
+/// The line of a refused configuration.
+pub fn bad_config_text(why: &Refused) -> Text
+    ensures { result.items ≡ bad_config_text why.now }
+{
+    match why {
+        Refused::Rule(code) => rule_text(*code),
+        Refused::March { set, kind, place } => march_text(*set, *kind, *place),
+    }
 }

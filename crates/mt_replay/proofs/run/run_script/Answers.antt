@@ -1,7 +1,7 @@
 use Rattle.std.proofs.Common.{◌≡◌, ◌∙◌, refl, arith, ℕ, Ok, Err, subst}
 use Rattle.std.specs.Io.KnownBytes.{prepend_known}
 use Rattle.mt_replay.specs.declared.run.Turn.TheVariants as turn
-use Rattle.mt_replay.specs.Ram.{Machine}
+use Rattle.mt_replay.specs.Machine.{Machine}
 use Rattle.mt_replay.specs.Run.{Goes}
 use Rattle.mt_replay.proofs.Runs.{change, Goes-none, Goes-goes, turn_ends}
 use Rattle.mt_replay.proofs.run.run_script.Goals as goal
@@ -35,7 +35,7 @@ loop-number-preserved g c =
 pub returns-in-Ok-Ended-run_past-clause-gives : goal.returns-in-Ok-Ended-run_past-clause-gives
 returns-in-Ok-Ended-run_past-clause-gives g c =
     let m : Machine = record { board = g.B.Port.state c.loop-number.board; ram = c.loop-number.ram } in
-    let config = c.args.config.now in
+    let config = c.args.shape in
     let first : Machine = record { board = g.B.Port.state c.args.board.now; ram = c.args.ram.now } in
     let last : c.loop-number.number ≡ 1000001 = omega arith in
     let change_now = change (prepend_known c.args.input.now (g.S.Source.left c.args.source.now)) (prepend_known c.loop-number.input (g.S.Source.left c.loop-number.source)) (g.K.Sink.held c.args.sink.now) (g.K.Sink.held c.loop-number.sink) (g.B.Port.tape c.args.board.now) (g.B.Port.tape c.loop-number.board) in
@@ -45,7 +45,7 @@ returns-in-Ok-Ended-run_past-clause-gives g c =
 pub returns-in-Err-run_past-clause-gives : goal.returns-in-Err-run_past-clause-gives
 returns-in-Err-run_past-clause-gives g c =
     let m : Machine = record { board = g.B.Port.state c.loop-number.board; ram = c.loop-number.ram } in
-    let config = c.args.config.now in
+    let config = c.args.shape in
     let first : Machine = record { board = g.B.Port.state c.args.board.now; ram = c.args.ram.now } in
     let last : c.loop-number.number ≡ 1000001 = omega arith in
     let change_now = change (prepend_known c.args.input.now (g.S.Source.left c.args.source.now)) (prepend_known c.loop-number.input (g.S.Source.left c.loop-number.source)) (g.K.Sink.held c.args.sink.now) (g.K.Sink.held c.loop-number.sink) (g.B.Port.tape c.args.board.now) (g.B.Port.tape c.loop-number.board) in
