@@ -16,7 +16,7 @@ use Rattle.mt_replay.specs.declared.job.Found.TheVariants as found
 use Rattle.mt_replay.specs.declared.job.Script.TheVariants as script
 use Rattle.mt_replay.specs.declared.status.Status.{Status}
 use Rattle.mt_replay.specs.declared.status.Status.TheVariants as status
-use Rattle.mt_replay.specs.Input.{Ending, Finished, Failed, Cut, cut, Job, Parted, Whole, job_of}
+use Rattle.mt_replay.specs.Input.{Ending, Finished, Failed, cut, Job, Parted, Whole, job_of}
 use Rattle.mt_replay.specs.Head.{Parts, EndsWith, Exceeds, HeadBreaks, IsTooLong}
 use Rattle.mt_replay.specs.Machine.{Machine, started}
 use Rattle.mt_replay.specs.Outcome.{Outcome, Run, ran, bad_config, by_job, outcome, run_script, done_text, read_fault_text}

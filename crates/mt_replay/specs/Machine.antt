@@ -1,5 +1,5 @@
 -- The machine that a script drives: the board, and the module RamTst over it. Each line is one event.
-use Rattle.std.specs.Prelude.{ℕ, ◌+◌, ◌≡◌, false, List, [], ◌∷◌, ◌++◌, Option, Some, None, is_some, if◌then◌else◌, length, replicate, slice_set}
+use Rattle.std.specs.Prelude.{ℕ, ◌≡◌, false, List, [], ◌∷◌, ◌++◌, Option, Some, None, is_some, if◌then◌else◌, length, replicate, slice_set}
 use Rattle.mt_port.specs.declared.board.Shape.{Shape}
 use Rattle.mt_port.specs.declared.board.Touch.{Touch}
 use Rattle.mt_port.specs.declared.request.Request.{Request}
@@ -20,7 +20,7 @@ use Rattle.mt_blocks.specs.Slices.{Piece}
 use Rattle.mt_blocks.specs.Accepted.{set_at}
 use Rattle.mt_ram.specs.declared.state.State.TheVariants.{Uninit}
 use Rattle.mt_ram.specs.State.{RamTst}
-use Rattle.mt_ram.specs.Table.{Service, Init, DeInit, Allow, Stop, Suspend, Resume, SelectAlgParams, ChangeNumberOfTestedCells, RunFullTest, RunPartialTest, MainFunction, GetTestResultPerBlock, GetTestResult, GetAlgParams, GetTestAlgorithm, GetNumberOfTestedCells, GetExecutionStatus, GetVersionInfo, reply_to, after}
+use Rattle.mt_ram.specs.Table.{Service, Init, DeInit, Allow, Stop, Suspend, Resume, SelectAlgParams, ChangeNumberOfTestedCells, RunFullTest, RunPartialTest, GetTestResultPerBlock, GetTestResult, GetAlgParams, GetTestAlgorithm, GetNumberOfTestedCells, GetExecutionStatus, GetVersionInfo, reply_to, after}
 use Rattle.mt_ram.specs.Event.{ticking, full_test, partial_test}
 use Rattle.mt_conf.specs.declared.config.Config.{Config}
 use Rattle.mt_replay.specs.declared.event.Running.{Running}

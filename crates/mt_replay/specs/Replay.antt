@@ -11,7 +11,6 @@ use Rattle.mt_fault.specs.declared.fault.Fault.{Fault}
 use Rattle.mt_port.specs.declared.board.Shape.{Shape}
 use Rattle.mt_conf.specs.declared.config.Config.{Config}
 use Rattle.mt_conf.specs.Accepted.{IsAcceptedConfig}
-use Rattle.mt_replay.specs.declared.refused.Refused.{Refused}
 use Rattle.mt_replay.specs.declared.job.Found.{Found}
 use Rattle.mt_replay.specs.declared.job.Found.TheVariants as found
 use Rattle.mt_replay.specs.declared.job.Script.{Script}

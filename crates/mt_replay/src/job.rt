@@ -70,7 +70,10 @@ fn whole_refused(bytes: &[u8]) -> Refused
 // Reads the configuration.
 fn find<S: Source>(
     alloc: Global,
-    input: &mut Input, source: &mut S, kept: &mut Vec<u8>) -> Result<Found, Failed>
+    input: &mut Input,
+    source: &mut S,
+    kept: &mut Vec<u8>,
+) -> Result<Found, Failed>
     requires empty { kept.old.items ≡ [] }
     requires room { HEAD_ROOM ≤ vec_capacity kept.old }
     ensures ok { IfOk result (λ found. WhereTold (prepend_known input.old (S.left source.old)) (prepend_known input.new (S.left source.new)) (FoundGives found)) }

@@ -1,4 +1,4 @@
-use Rattle.std.proofs.Common.{◌≡◌, ◌∙◌, ◌∷◌, ◌++◌, [], ap, sym, Option}
+use Rattle.std.proofs.Common.{◌∙◌, [], ap, sym, Option}
 use Rattle.mt_replay.specs.declared.event.Running.{Running}
 use Rattle.mt_replay.specs.Machine.{Machine, service_of, by_service}
 use Rattle.mt_replay.proofs.Texts.{Logs-nil}
@@ -12,6 +12,6 @@ returns-in-None-clause-does g c =
     record {
       touches = [];
       is = ap (λ (r : Option Running). by_service m (service_of c.args.call) r c.args.requests.items) none
-      ∙ does_call m c.serve.new.ram (service_of c.args.call) c.serve.result c.args.log.now c.serve.ensures.reply c.serve.ensures.next c.requires.empty;
+          ∙ does_call m c.serve.new.ram (service_of c.args.call) c.serve.result c.args.log.now c.serve.ensures.reply c.serve.ensures.next c.requires.empty;
       taped = Logs-nil _;
     }

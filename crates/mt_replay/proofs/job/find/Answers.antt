@@ -1,5 +1,5 @@
 use Rattle.std.proofs.Common.{◌∙◌, ap, sym, subst, List, ℕ}
-use Rattle.mt_replay.specs.Input.{Finished, Parted, Whole}
+use Rattle.mt_replay.specs.Input.{Finished, Whole}
 use Rattle.mt_replay.specs.Outcome.{by_job}
 use Rattle.mt_replay.specs.Replay.{IsFound}
 use Rattle.mt_replay.proofs.Texts.{WhereTold-map}

@@ -1,4 +1,4 @@
-use Rattle.std.proofs.Common.{◌≡◌, ◌+◌, ◌∷◌, ◌∙◌, List, [], drop, subst, arith}
+use Rattle.std.proofs.Common.{◌+◌, ◌∙◌, List, drop, subst}
 use Rattle.std.proofs.lemmas.List.{drop_more, drop_all}
 use Rattle.mt_window.specs.declared.log.Entry.{Entry}
 use Rattle.mt_replay.proofs.Texts.{SoFar, SoFar-next, SoFar-cut, SoFar-all}
@@ -18,8 +18,8 @@ loop-entry-preserved g c =
     let k = c.loop-entry.entry-index in
     record {
       text = SoFar-next c.args.width c.args.number all (drop (k + 1) all) _ _ (g.K.Sink.held c.loop-entry.sink) _
-      (subst (λ (l : List Entry). SoFar c.args.width c.args.number all l (g.K.Sink.held c.args.sink.now) (g.K.Sink.held c.loop-entry.sink)) (drop_more all k _ c.loop-entry-test.true) c.loop-entry.invariant.text)
-      c.in-Ok.ensures.ok;
+          (subst (λ (l : List Entry). SoFar c.args.width c.args.number all l (g.K.Sink.held c.args.sink.now) (g.K.Sink.held c.loop-entry.sink)) (drop_more all k _ c.loop-entry-test.true) c.loop-entry.invariant.text)
+          c.in-Ok.ensures.ok;
       faults = c.in-Ok.ensures.cause.kept ∙ c.loop-entry.invariant.faults;
     }
 
