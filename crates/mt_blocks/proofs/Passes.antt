@@ -1,5 +1,5 @@
 -- The slices of a pass from a position on.
-use Rattle.std.proofs.Common.{ℕ, suc, zero, ◌+◌, ◌-◌, ◌*◌, ◌/◌, ◌<◌, ◌≤◌, ◌≡◌, Bool, true, false, cond, leb, ltb, List, [], ◌∷◌, ◌++◌, drop, take, map, length, get_or, min, Option, Some, None, refl, sym, ap, ◌∙◌, subst, arith}
+use Rattle.std.proofs.Common.{ℕ, suc, ◌+◌, ◌-◌, ◌*◌, ◌/◌, ◌<◌, ◌≤◌, ◌≡◌, Bool, true, false, cond, ltb, List, [], ◌∷◌, ◌++◌, drop, length, get_or, Option, Some, None, refl, sym, ap, ◌∙◌, subst, arith}
 use Rattle.std.proofs.Math.Nat.{mul-div_cancel, div-lt_iff_lt-mul, le-div_iff_mul-le, add-mul, div-eq_of_lt}
 use Rattle.std.proofs.lemmas.Bool.Decides.{nat_tests}
 use Rattle.std.proofs.lemmas.Bool.{le-leb, lt-leb}
@@ -92,7 +92,7 @@ after_last K spans p ok valid last =
     let few : slice_count K b ≤ k + 1 = count_below K (span_len b) k ok.some (omega (arith, valid.multiple, add-mul k 1 K)) in
     drop_all (k + 1) (pieces K i b) (omega (arith, long))
 
-from_first : (K : ℕ) (spans : List Span) (i : ℕ) → 1 ≤ K → from_place K spans (record { block = i; offset = 0 }) ≡ pieces_from K i (drop i spans)
+pub from_first : (K : ℕ) (spans : List Span) (i : ℕ) → 1 ≤ K → from_place K spans (record { block = i; offset = 0 }) ≡ pieces_from K i (drop i spans)
 unfolding from_place
 from_first K spans i some = ap (λ (n : ℕ). drop n (pieces_from K i (drop i spans))) (div-eq_of_lt {n = 0} {m = K} (omega arith))
 

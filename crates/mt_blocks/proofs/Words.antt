@@ -1,12 +1,12 @@
 -- The words of slices.
-use Rattle.std.proofs.Common.{ℕ, suc, zero, ◌+◌, ◌-◌, ◌*◌, ◌/◌, ◌<◌, ◌≤◌, ◌≡◌, Bool, true, false, cond, leb, List, [], ◌∷◌, ◌++◌, take, map, length, get_or, min, refl, sym, ap, ◌∙◌, subst, arith, inl, inr, append-nil}
-use Rattle.std.specs.Prelude.{All, ◌⊎◌}
+use Rattle.std.proofs.Common.{ℕ, suc, zero, ◌+◌, ◌-◌, ◌*◌, ◌<◌, ◌≤◌, ◌≡◌, Bool, true, false, cond, leb, List, [], ◌∷◌, ◌++◌, take, map, length, get_or, min, refl, sym, ap, ◌∙◌, subst, arith, inl, inr, append-nil, length-append}
+use Rattle.std.specs.Prelude.{◌⊎◌}
 use Rattle.std.specs.List.{range_with_len}
-use Rattle.std.proofs.Math.Nat.{add-mul, le-mul_of_pos_right, le-div_iff_mul-le}
+use Rattle.std.proofs.Math.Nat.{add-mul}
 use Rattle.std.proofs.lemmas.Bool.Decides.{leb_tells}
-use Rattle.std.proofs.lemmas.List.FromFn.{length-map-range_with_len, get_or-map-range_with_len}
+use Rattle.std.proofs.lemmas.List.FromFn.{length-map-range_with_len, get_or-map-range_with_len, length-range_with_len}
 use Rattle.mt_blocks.specs.declared.span.Span.{Span}
-use Rattle.mt_blocks.specs.Slices.{Piece, span_len, slice_count, piece, pieces}
+use Rattle.mt_blocks.specs.Slices.{Piece, span_len, span_at, slice_count, piece, pieces, pieces_from}
 use Rattle.mt_blocks.specs.Groups.{group_len}
 use Rattle.mt_blocks.specs.Laws.{addresses, addresses_of, word_count, IsWhole, SlicesAreTheBlock, OnlyTheLastIsShorter, GroupsFit, GroupsAreLongest}
 use Rattle.mt_blocks.proofs.Passes.{count_all, count_inside}
@@ -106,3 +106,25 @@ groups_are_longest N (p ∷ more) h = of (leb_tells p.slice.n N) (λ l. groups_a
     of (inr h) next =
         subst (λ (b : Bool). cond b (suc (group_len (N - p.slice.n) more)) 0 < length (p ∷ more) → N < word_count (take (suc (cond b (suc (group_len (N - p.slice.n) more)) 0)) (p ∷ more)))
         (sym h.0) (λ l. omega (arith, h.1))
+
+-- how many words slices have
+word_count-addresses : (L : List Piece) → length (addresses_of L) ≡ word_count L
+word_count-addresses [] = refl
+word_count-addresses (p ∷ more) = omega (arith, length-append (addresses p.slice) (addresses_of more), length-range_with_len p.slice.first p.slice.n, word_count-addresses more)
+
+word_count-append : (xs ys : List Piece) → word_count (xs ++ ys) ≡ word_count xs + word_count ys
+word_count-append [] ys = omega arith
+word_count-append (x ∷ xs) ys = omega (arith, word_count-append xs ys)
+
+pub word_count-block : (K i : ℕ) (s : Span) → 1 ≤ K → s.first ≤ s.last → word_count (pieces K i s) ≡ span_len s
+word_count-block K i s some ordered =
+    sym (word_count-addresses (pieces K i s)) ∙ ap (λ (l : List ℕ). length l) (slices_are_the_block K i s some ordered) ∙ length-range_with_len s.first (span_len s)
+
+pub word_count-pass : (K i : ℕ) (spans : List Span) → 1 ≤ K → ((j : ℕ) → j < length spans → (span_at spans j).first ≤ (span_at spans j).last)
+    → ((j : ℕ) → j < length spans → (span_at spans j).last < 65536) → word_count (pieces_from K i spans) ≤ 65536 * length spans
+word_count-pass K i [] some ordered low = omega arith
+word_count-pass K i (s ∷ more) some ordered low =
+    let one = word_count-block K i s some (ordered 0 (omega arith)) in
+    let here : s.last < 65536 = low 0 (omega arith) in
+    let rest = word_count-pass K (i + 1) more some (λ j h. ordered (suc j) (omega (arith, h))) (λ j h. low (suc j) (omega (arith, h))) in
+    omega (arith, word_count-append (pieces K i s) (pieces_from K (i + 1) more), one, here, rest)

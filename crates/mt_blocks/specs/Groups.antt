@@ -1,5 +1,5 @@
 -- Groups of slices, and ticks.
-use Rattle.std.specs.Prelude.{ℕ, suc, zero, ◌+◌, ◌-◌, List, [], ◌∷◌, ◌++◌, length, take, drop, if◌then◌else◌, nat_le}
+use Rattle.std.specs.Prelude.{ℕ, suc, zero, ◌-◌, List, [], ◌∷◌, length, take, drop, if◌then◌else◌, nat_le}
 use Rattle.mt_blocks.specs.Slices.{Piece}
 
 -- how many slices the longest run at the front has whose word counts add up to at most so many

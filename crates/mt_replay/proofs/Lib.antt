@@ -4,3 +4,5 @@ pub mod Texts
 pub mod Turns
 pub mod Runs
 pub mod Heads
+pub mod Groups
+pub mod Jobs

@@ -1,10 +1,10 @@
 -- The first line of some bytes.
-use Rattle.std.proofs.Common.{ℕ, ◌+◌, ◌<◌, ◌≤◌, ◌≡◌, ◌==◌, ◌≢◌, ◌⊎◌, inl, inr, Bool, true, false, cond, List, [], ◌∷◌, ◌++◌, length, Option, Some, None, refl, sym, ap, ◌∙◌, subst, arith, append_assoc, append-nil, length-append}
+use Rattle.std.proofs.Common.{ℕ, ◌+◌, ◌<◌, ◌≤◌, ◌≡◌, ◌==◌, ◌≢◌, inl, inr, Bool, true, false, cond, List, [], ◌∷◌, ◌++◌, length, Option, Some, None, refl, sym, ap, ◌∙◌, subst, arith, append_assoc, append-nil, length-append}
 use Rattle.std.proofs.lemmas.Bool.Decides.{eqb_tells}
 use Rattle.std.specs.Io.KnownBytes.{prepend_known}
 use Rattle.mt_port.specs.Streams.{WhereTold}
 use Rattle.mt_port.proofs.StreamLemmas.{WhereTold-then}
-use Rattle.mt_replay.specs.Input.{Cut, cut, led, begun, HasNoFeed, BeginsTooLong, TakesLine, TakesPiece, BreaksOff}
+use Rattle.mt_replay.specs.Input.{Cut, cut, led, begun, HasNoFeed, BeginsTooLong, TakesLine, BreaksOff}
 use Rattle.mt_replay.specs.declared.input.Line.TheVariants as line
 use Rattle.mt_replay.proofs.Feeds.{HasNoFeed-append}
 

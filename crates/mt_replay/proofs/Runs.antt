@@ -1,5 +1,5 @@
 -- Lines that are run one after another.
-use Rattle.std.proofs.Common.{ℕ, ◌+◌, ◌-◌, ◌<◌, ◌≤◌, ◌≡◌, ◌≢◌, Bool, true, false, cond, ◌⊎◌, inl, inr, length-append, List, [], ◌∷◌, ◌++◌, length, Option, Some, None, Result, Ok, Err, refl, sym, ap, ◌∙◌, subst, arith, append_assoc}
+use Rattle.std.proofs.Common.{ℕ, ◌+◌, ◌-◌, ◌<◌, ◌≤◌, ◌≡◌, ◌≢◌, Bool, true, false, cond, inl, inr, length-append, List, [], ◌∷◌, ◌++◌, length, Option, Some, None, Result, Ok, Err, refl, sym, ap, ◌∙◌, arith, append_assoc}
 use Rattle.std.specs.Prelude.{nat_lt}
 use Rattle.std.proofs.lemmas.Bool.{le-ltb, lt-ltb}
 use Rattle.mt_port.specs.Streams.{WhereTold}
@@ -14,10 +14,10 @@ use Rattle.mt_replay.specs.declared.run.Turn.{Turn}
 use Rattle.mt_replay.specs.declared.run.Turn.TheVariants as turn
 use Rattle.mt_replay.specs.declared.status.Status.{Status}
 use Rattle.mt_replay.specs.declared.status.Status.TheVariants as status
-use Rattle.mt_replay.specs.Input.{Ending, Finished, Failed, Cut, cut, led, begun, HasNoFeed, BeginsTooLong, TakesLine, BreaksOff}
-use Rattle.mt_replay.specs.Machine.{Machine}
+use Rattle.mt_replay.specs.Input.{Finished, Failed, Cut, cut, led, begun, BeginsTooLong, TakesLine, BreaksOff}
+use Rattle.mt_replay.specs.Ram.{Machine}
 use Rattle.mt_replay.specs.Outcome.{Run, preceded, done, refused, read_fault, read_fault_text, judged, last_judged, run_lines, run_script}
-use Rattle.mt_replay.specs.Run.{Change, Answered, Concludes, Refused, CutOff, Fronts, LineGives, EndGives, Crosses, Breaking, Goes, Ends, Breaks, Stops, TurnGives, ScriptGives}
+use Rattle.mt_replay.specs.Run.{Change, LineGives, EndGives, Crosses, Goes, Ends, Breaks, Stops, TurnGives, ScriptGives}
 use Rattle.std.specs.Io.KnownBytes.{prepend_known}
 use Rattle.mt_replay.proofs.Feeds.{feed_or_not}
 use Rattle.mt_replay.proofs.Lines.{cut-line, cut-rest, Filled}

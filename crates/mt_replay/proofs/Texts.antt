@@ -6,7 +6,7 @@ use Rattle.std.specs.Result.{OnErr}
 use Rattle.mt_port.specs.Streams.{AppendsFront, WhereTold}
 use Rattle.mt_port.specs.declared.board.Touch.{Touch}
 use Rattle.mt_port.specs.Board.{Logs}
-use Rattle.mt_port.proofs.StreamLemmas.{Appends-trans, WhereTold-then}
+use Rattle.mt_port.proofs.StreamLemmas.{Appends-trans}
 use Rattle.mt_word.specs.declared.Width.{Width}
 use Rattle.mt_window.specs.declared.log.Entry.{Entry}
 use Rattle.mt_text.specs.Trace.{entries_text, entry_text}

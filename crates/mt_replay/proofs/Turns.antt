@@ -1,26 +1,24 @@
 -- What judging a line gives.
-use Rattle.std.proofs.Common.{ℕ, ◌+◌, ◌-◌, ◌<◌, ◌≤◌, ◌≡◌, ◌≢◌, Bool, true, false, cond, List, [], ◌∷◌, ◌++◌, length, Option, Some, None, Result, Ok, Err, refl, sym, ap, ◌∙◌, subst, arith, append_assoc, append-nil}
+use Rattle.std.proofs.Common.{ℕ, ◌≤◌, ◌≡◌, ◌≢◌, false, List, ◌++◌, length, Option, Result, Ok, Err, refl, sym, ap, ◌∙◌, append_assoc}
 use Rattle.std.specs.Prelude.{nat_lt}
-use Rattle.std.proofs.lemmas.Bool.{le-ltb, lt-ltb}
-use Rattle.mt_port.specs.declared.board.Touch.{Touch}
+use Rattle.std.proofs.lemmas.Bool.{le-ltb}
 use Rattle.mt_text.specs.declared.line.Line.{Line}
-use Rattle.mt_text.specs.declared.line.LineRefusal.{LineRefusal}
 use Rattle.mt_text.specs.Lines.{line_of}
 use Rattle.mt_text.specs.Trace.{entries_text}
 use Rattle.mt_window.specs.declared.log.Entry.{Entry}
-use Rattle.mt_port.proofs.StreamLemmas.{Appends-nil, Appends-trans}
+use Rattle.mt_port.proofs.StreamLemmas.{Appends-trans}
 use Rattle.mt_replay.specs.declared.config.Config.{Config}
 use Rattle.mt_replay.specs.declared.run.Fault.{Fault}
 use Rattle.mt_replay.specs.declared.run.Fault.TheVariants as fault
 use Rattle.mt_replay.specs.declared.run.Turn.{Turn}
 use Rattle.mt_replay.specs.declared.run.Turn.TheVariants as turn
-use Rattle.mt_replay.specs.declared.status.Status.{Status}
 use Rattle.mt_replay.specs.declared.status.Status.TheVariants as status
-use Rattle.mt_replay.specs.Machine.{Machine, Step, step}
-use Rattle.mt_replay.specs.Outcome.{Run, preceded, stepped, answered, judged, done}
-use Rattle.mt_replay.specs.Events.{Steps, Stays}
-use Rattle.mt_replay.specs.Run.{Change, Judging, IsPlain, Answered, Concludes, Refused, CutOff, Fronts, LineGives, EndGives}
-use Rattle.mt_replay.proofs.Texts.{entries_text-nil, AppendsFront-after, Logs-append}
+use Rattle.mt_replay.specs.Machine.{Step, step}
+use Rattle.mt_replay.specs.Ram.{Machine}
+use Rattle.mt_replay.specs.Outcome.{Run, preceded, stepped, answered, judged}
+use Rattle.mt_replay.specs.Events.{Steps}
+use Rattle.mt_replay.specs.Run.{Change, Judging, Answered, CutOff, LineGives, EndGives}
+use Rattle.mt_replay.proofs.Texts.{AppendsFront-after, Logs-append}
 
 -- a line that is judged otherwise, but alike
 pub LineGives-same : (r : Result Turn Fault) (j k : Judging) (m' : Machine) (x : Change) → ((follow : Machine → Run) → k follow ≡ j follow) → LineGives r j m' x → LineGives r k m' x

@@ -11,7 +11,10 @@ use Rattle.mt_window.specs.declared.log.Entry.TheVariants.{Own}
 use Rattle.mt_replay.specs.declared.config.Config.{Config}
 use Rattle.mt_replay.specs.declared.event.Answer.{Answer}
 use Rattle.mt_replay.specs.declared.event.Answer.TheVariants as answer
-use Rattle.mt_replay.specs.Machine.{Machine, Step, step}
+use Rattle.mt_text.specs.declared.line.RamCall.{RamCall}
+use Rattle.mt_replay.specs.declared.ram.Ram.{Ram}
+use Rattle.mt_replay.specs.Machine.{step, by_call, tick}
+use Rattle.mt_replay.specs.Ram.{Machine}
 
 -- The line is answered with these entries, and these accesses are made.
 pub record Steps (c : Config) (m m' : Machine) (line : Line) (entries : List Entry) (tape tape' : Option (List Touch)) : Type 0 where
@@ -34,3 +37,14 @@ AnswerGives answer.Unknown c m m' line tape tape' = Stays c m m' line tape tape'
 pub record Injects (old new : Board) (fault : Fault) (answer : Reply) : Type 0 where
   pub reply : answer ≡ (if is_some old.fault then replies.Present else replies.Done)
   pub board : new ≡ (if is_some old.fault then old else injected old fault)
+
+-- what a service of the RAM test answers; none, where it is not there yet
+abbrev pub CallGives : Option Reply → (old new : Ram) → RamCall → Type 0
+CallGives (Some reply) old new call = by_call old call ≡ Some (record { ram = new; reply = reply })
+CallGives None old new call = (by_call old call ≡ None) × (new ≡ old)
+
+-- A tick makes these accesses.
+pub record Ticks (c : Config) (m m' : Machine) (answer : Reply) (tape tape' : Option (List Touch)) : Type 0 where
+  pub touches : List Touch
+  pub is : tick c m m.ram.state ≡ record { after = m'; entries = Own answer ∷ []; touches = touches }
+  pub taped : Logs tape tape' touches

@@ -1,7 +1,11 @@
 pub mod Input
 pub mod Status
+pub mod Accepted
+pub mod Configuration
+pub mod Ram
 pub mod Machine
 pub mod Outcome
 pub mod Run
 pub mod Events
 pub mod Head
+pub mod Replay

@@ -13,8 +13,10 @@ use Rattle.mt_text.specs.Trace.{entries_text}
 use Rattle.mt_replay.specs.declared.config.Config.{Config}
 use Rattle.mt_replay.specs.declared.status.Status.{Status}
 use Rattle.mt_replay.specs.declared.status.Status.TheVariants as status
-use Rattle.mt_replay.specs.Input.{Ending, Finished, Failed, Cut, cut}
-use Rattle.mt_replay.specs.Machine.{Machine, Step, step, started}
+use Rattle.mt_replay.specs.Configuration.{config_of}
+use Rattle.mt_replay.specs.Input.{Ending, Finished, Failed, Cut, Job, Parted, Whole, job_of}
+use Rattle.mt_replay.specs.Machine.{Step, step, started}
+use Rattle.mt_replay.specs.Ram.{Machine}
 
 -- how a script ends: its text, its test accesses, its status, and the board after it
 pub record Run : Type 0 where
@@ -99,3 +101,37 @@ run_lines ending c m number (line ∷ more) rest = judged c m number line (λ af
 -- the script that some bytes are
 abbrev pub run_script : Ending → Config → Machine → ℕ → Cut → Run
 run_script ending c m number script = run_lines ending c m number script.lines script.rest
+
+-- ---- a whole job
+
+-- the board after a script, and the accesses that the script made
+pub record After : Type 0 where
+  pub board : Board
+  pub touches : List Touch
+
+-- what a job gives; where no script was begun, the board stays
+pub record Outcome : Type 0 where
+  pub text : List ℕ
+  pub status : Status
+  pub after : Option After
+
+abbrev pub ran : Run → Outcome
+ran run = record { text = run.text; status = run.status; after = Some (record { board = run.board; touches = run.touches }) }
+
+abbrev pub bad_config : ℕ → Outcome
+bad_config code = record { text = bad_config_text code; status = status.BadConfig code; after = None }
+
+-- the configuration decides, and then the script
+abbrev pub configured : Ending → Option Fault → Option Config → Cut → Outcome
+configured ending defect None script = bad_config 1
+configured ending defect (Some c) script = ran (run_script ending c (started c defect) 1 script)
+
+-- a configuration that is too long is refused first; then one without a separator, where the input ended; where the source failed, that is told
+abbrev pub by_job : Ending → Option Fault → Job → Outcome
+by_job ending defect (Parted config script) = if nat_lt 65536 (length config) then bad_config 18 else configured ending defect (config_of config) script
+by_job Finished defect (Whole bytes) = if nat_lt 65536 (length bytes) then bad_config 18 else bad_config 19
+by_job Failed defect (Whole bytes) = if nat_le 65542 (length bytes) then bad_config 18 else record { text = read_fault_text; status = status.ReadFault; after = None }
+
+-- what some bytes give on a board with a defect or none
+unfoldable pub outcome : Ending → Option Fault → List ℕ → Outcome
+outcome ending defect bytes = by_job ending defect (job_of ending bytes)

@@ -1,5 +1,5 @@
 -- What the calls that read, run and write lines do.
-use Rattle.std.specs.Prelude.{ℕ, ◌+◌, ◌≡◌, ◌≢◌, List, [], ◌++◌, Option, Some, Result, Ok, Err}
+use Rattle.std.specs.Prelude.{ℕ, ◌+◌, ◌≡◌, ◌≢◌, List, [], ◌++◌, Option, Result, Ok, Err}
 use Rattle.std.specs.Io.KnownBytes.{Appends}
 use Rattle.mt_port.specs.Causes.{Rose}
 use Rattle.mt_port.specs.Streams.{AppendsFront, WhereTold}
@@ -13,7 +13,7 @@ use Rattle.mt_replay.specs.declared.run.Turn.TheVariants as turn
 use Rattle.mt_replay.specs.declared.status.Status.{Status}
 use Rattle.mt_replay.specs.declared.status.Status.TheVariants as status
 use Rattle.mt_replay.specs.Input.{Ending, Finished, Failed, cut}
-use Rattle.mt_replay.specs.Machine.{Machine}
+use Rattle.mt_replay.specs.Ram.{Machine}
 use Rattle.mt_replay.specs.Outcome.{Run, preceded, run_script, read_fault_text}
 
 -- A fault comes only where the count of its stream rose, and every other count stays.

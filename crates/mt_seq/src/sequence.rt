@@ -168,6 +168,7 @@ mod tests {
     use std::test::Fail;
 
     #[test]
+    #[tactic(auto, unfolding(mt_port::specs::Board::powered_up))]
     fn march_c_minus_on_one_word(rt: HostRuntime) -> Result<(), Fail> {
         let shape = Shape {
             width: Width::W8,

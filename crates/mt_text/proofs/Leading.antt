@@ -1,5 +1,5 @@
 -- Words that lead from one form to another.
-use Rattle.std.proofs.Common.{◌≡◌, ℕ, Bool, true, false, cond, List, [], ◌∷◌, ◌++◌, Option, Some, None, Result, Ok, Err, refl, sym, ap, subst, ◌∙◌, inl, inr}
+use Rattle.std.proofs.Common.{◌≡◌, ℕ, true, List, [], ◌∷◌, ◌++◌, Ok, Err, refl, sym, ap, subst, ◌∙◌, inl, inr}
 use Rattle.std.proofs.lemmas.Bool.{cases_Bool}
 use Rattle.std.specs.Str.{bytes_eq}
 use Rattle.mt_port.specs.declared.board.Shape.{Shape}
@@ -7,7 +7,6 @@ use Rattle.mt_fault.specs.declared.fault.Spot.{Spot}
 use Rattle.mt_text.specs.Tokens.{Token, begins_word}
 use Rattle.mt_text.specs.Forms.{Form, done, none, row, barred, value, spot, mark, Slot, SpotSlot, step, mapped, mapped_ok, value_at, word_at, spot_at, mark_at}
 use Rattle.mt_text.specs.Lines.{Part, part_form, settled, Leads}
-use Rattle.mt_text.specs.declared.line.LineKind.{LineKind}
 use Rattle.mt_text.proofs.Pieces.{bytes_of}
 
 -- inside a form

@@ -1,10 +1,10 @@
 -- The text of pieces that are written one after another.
-use Rattle.std.proofs.Common.{◌≡◌, ℕ, ◌+◌, ◌<◌, Bool, true, false, List, [], ◌∷◌, ◌++◌, length, drop, get_or, refl, sym, ap, ◌∙◌, append_assoc, codes}
+use Rattle.std.proofs.Common.{◌≡◌, ℕ, ◌+◌, ◌<◌, Bool, true, List, [], ◌∷◌, ◌++◌, length, drop, get_or, refl, sym, ap, ◌∙◌, append_assoc}
 use Rattle.std.proofs.lemmas.List.{drop_more, append-nil}
 use Rattle.mt_word.specs.declared.Width.{Width}
 use Rattle.mt_port.specs.declared.request.HandlerOp.{HandlerOp}
 use Rattle.mt_port.specs.declared.request.Request.{Request}
-use Rattle.mt_text.specs.Canonical.{Piece, shown, text_of, piece, words, op_words, further_ops, request_pieces, requests_pieces}
+use Rattle.mt_text.specs.Canonical.{Piece, shown, text_of, words, op_words, further_ops, request_pieces, requests_pieces}
 
 pub text_of_append : (ps qs : List Piece) → text_of (ps ++ qs) ≡ text_of ps ++ text_of qs
 text_of_append [] qs = refl

@@ -1,8 +1,8 @@
 -- The tokens of a text that is written piece by piece.
-use Rattle.std.proofs.Common.{◌≡◌, ℕ, zero, suc, ◌+◌, ◌==◌, Bool, true, false, cond, ◌&&◌, List, [], ◌∷◌, ◌++◌, length, refl, sym, ap, subst, ◌∙◌, ◌⊎◌, inl, inr, arith, codes, append_assoc}
+use Rattle.std.proofs.Common.{◌≡◌, ℕ, suc, ◌+◌, ◌==◌, Bool, true, false, List, [], ◌∷◌, ◌++◌, length, refl, ap, ◌∙◌, ◌⊎◌, inl, inr, arith}
 use Rattle.std.specs.List.{list_all}
 use Rattle.mt_text.specs.Tokens.{Token, tokens, is_word, begins_word}
-use Rattle.mt_text.specs.Canonical.{Piece, shown, text_of, piece, words, spaced_words}
+use Rattle.mt_text.specs.Canonical.{Piece, shown, text_of, words, spaced_words}
 use Rattle.mt_text.proofs.TokenLemmas.{word_ends, word_goes_on, mark_alone, tokens_space}
 use Rattle.mt_text.proofs.Numbers.{both}
 

@@ -1,5 +1,5 @@
 -- The words of canonical requests lead from part to part.
-use Rattle.std.proofs.Common.{◌≡◌, ℕ, zero, suc, ◌+◌, ◌^◌, ◌<◌, ◌≤◌, ◌==◌, nat_le, nat_lt, Bool, true, false, cond, List, [], ◌∷◌, ◌++◌, length, Option, Some, None, Result, Ok, Err, refl, sym, ap, subst, ◌∙◌, ◌⊎◌, inl, inr, arith, codes, append_assoc, length-append}
+use Rattle.std.proofs.Common.{◌≡◌, ℕ, ◌+◌, ◌<◌, ◌≤◌, nat_le, nat_lt, Bool, true, false, List, [], ◌∷◌, ◌++◌, length, Some, Ok, refl, sym, ap, subst, ◌∙◌, ◌⊎◌, inl, inr, arith, codes, append_assoc, length-append}
 use Rattle.std.proofs.lemmas.List.{append-nil}
 use Rattle.std.proofs.lemmas.Bool.Decides.{nat_tests}
 use Rattle.std.proofs.lemmas.List.Elements.{All-head, All-tail}
@@ -17,17 +17,16 @@ use Rattle.mt_port.specs.declared.request.HandlerCall.TheVariants.{RamAllow, Ram
 use Rattle.mt_port.specs.declared.request.HandlerOp.{HandlerOp}
 use Rattle.mt_port.specs.declared.request.HandlerOp.TheVariants as op
 use Rattle.mt_port.specs.declared.request.Request.{Request}
-use Rattle.mt_port.specs.Board.{IsWithinLimits, IsSoundOp, IsSoundInHandler, AreOrdered}
+use Rattle.mt_port.specs.Board.{IsWithinLimits, IsSoundInHandler, AreOrdered}
 use Rattle.mt_window.specs.Calls.{module_of}
 use Rattle.mt_text.specs.declared.line.Event.{Event}
-use Rattle.mt_text.specs.declared.line.Line.{Line}
-use Rattle.mt_text.specs.Tokens.{number_of, begins_word}
-use Rattle.mt_text.specs.Forms.{Form, done, none, row, barred, value, mark, Num, step, mapped}
+use Rattle.mt_text.specs.Tokens.{begins_word}
+use Rattle.mt_text.specs.Forms.{Form, done, row, Num, step, mapped}
 use Rattle.mt_text.specs.RamServices.{ram_handler_call}
 use Rattle.mt_text.specs.FlsServices.{fls_handler_call}
 use Rattle.mt_text.specs.Lines.{app_op, op_form, Part, Requests, Handler, Open, Operation, Separator, part_form, request_form, operation_form, request, line, last_offset, whole}
 use Rattle.mt_text.specs.Accepted.{IsNumber, IsHandlerCall, IsFor, IsRequest}
-use Rattle.mt_text.specs.Canonical.{Piece, app_words, call_words, op_words, piece, words, text_of, further_ops, handler_pieces, request_pieces, requests_pieces}
+use Rattle.mt_text.specs.Canonical.{Piece, app_words, call_words, op_words, words, text_of, further_ops, handler_pieces, requests_pieces}
 use Rattle.mt_text.proofs.Numbers.{number_of_text}
 use Rattle.mt_text.proofs.Pieces.{pieces_of, pieces_of_words, AreWords, AreApart, apart_words}
 use Rattle.mt_text.proofs.Leading.{Follows, follows_mapped, value_step, Path, from_part, path_append}

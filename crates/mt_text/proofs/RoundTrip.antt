@@ -1,6 +1,5 @@
 -- The canonical text of an accepted line spells it.
-use Rattle.std.proofs.Common.{◌≡◌, ℕ, ◌+◌, ◌≤◌, Bool, true, false, cond, List, [], ◌∷◌, ◌++◌, length, Option, Some, None, Result, Ok, Err, refl, sym, ap, subst, ◌∙◌, ◌⊎◌, inl, inr, arith, codes}
-use Rattle.std.proofs.lemmas.List.{append-nil}
+use Rattle.std.proofs.Common.{◌≡◌, ℕ, Bool, false, List, [], ◌∷◌, ◌++◌, Option, Some, None, refl, sym, subst, ◌∙◌}
 use Rattle.mt_port.specs.declared.board.Shape.{Shape}
 use Rattle.mt_port.specs.declared.request.Module.{Module}
 use Rattle.mt_port.specs.declared.request.Request.{Request}
@@ -9,8 +8,8 @@ use Rattle.mt_text.specs.declared.line.Event.{Event}
 use Rattle.mt_text.specs.declared.line.Event.TheVariants.{Nothing, Ram, Fls, TickRam, TickFls, App, Inject, Heal, Burn, Flip}
 use Rattle.mt_text.specs.declared.line.Line.{Line}
 use Rattle.mt_text.specs.Tokens.{Token, tokens}
-use Rattle.mt_text.specs.Forms.{Form, done}
-use Rattle.mt_text.specs.Lines.{event, Part, Start, Ended, Requests, part_form, follows, followed, running_module, line, whole, Spells, SpellsAt, SpellsTokens, is_comment, begins_comment}
+use Rattle.mt_text.specs.Forms.{done}
+use Rattle.mt_text.specs.Lines.{event, Start, Ended, follows, followed, running_module, line, Spells, SpellsAt, is_comment, begins_comment}
 use Rattle.mt_text.specs.Accepted.{IsSoundEvent, AreFor, IsAccepted}
 use Rattle.mt_text.specs.Canonical.{Piece, words, event_words, requests_pieces, text_of, canonical}
 use Rattle.mt_text.proofs.Pieces.{bytes_of, pieces_of, pieces_tokens, pieces_of_words, apart_words, AreApart}

@@ -1,5 +1,5 @@
 -- Rule 1 is broken just where no line has a token of that kind.
-use Rattle.std.proofs.Common.{◌≡◌, ◌≢◌, ℕ, Bool, true, false, cond, ◌&&◌, ◌||◌, List, [], ◌∷◌, ◌++◌, length, Option, Some, None, Result, Ok, Err, refl, sym, ap, subst, ◌∙◌, ◌⊎◌, inl, inr, not, nat_lt, nat_le, drop, codes}
+use Rattle.std.proofs.Common.{◌≡◌, ◌≢◌, ℕ, Bool, true, false, cond, ◌&&◌, List, [], ◌∷◌, ◌++◌, length, Option, Some, None, Result, Ok, Err, refl, sym, ap, subst, ◌∙◌, ◌⊎◌, inl, inr, nat_le, drop, codes}
 use Rattle.std.proofs.lemmas.Bool.{cases_Bool}
 use Rattle.std.specs.Str.{bytes_eq}
 use Rattle.std.proofs.lemmas.Slice.Eq.{bytes_eq-Decides}
@@ -12,12 +12,12 @@ use Rattle.mt_port.specs.declared.request.HandlerOp.TheVariants.{App as AppIn, C
 use Rattle.mt_port.specs.declared.request.Request.{Request}
 use Rattle.mt_port.specs.declared.request.AppOp.TheVariants.{Read}
 use Rattle.mt_text.specs.declared.line.Event.{Event}
-use Rattle.mt_text.specs.declared.line.Event.TheVariants.{Nothing, Ram, Fls, TickRam, TickFls, App, Inject, Heal, Burn, Flip}
+use Rattle.mt_text.specs.declared.line.Event.TheVariants.{Ram, Fls, App, Inject}
 use Rattle.mt_text.specs.declared.line.Line.{Line}
 use Rattle.mt_text.specs.declared.line.LineKind.{LineKind}
 use Rattle.mt_text.specs.declared.line.LineRefusal.{LineRefusal}
 use Rattle.std.proofs.lemmas.List.{append-nil}
-use Rattle.mt_text.specs.declared.line.LineKind.TheVariants.{Spelling, Number, Address, FaultRefused, WordTooWide, OffsetsFall, TooManyRequests, TooManyOps, NotInHandler}
+use Rattle.mt_text.specs.declared.line.LineKind.TheVariants.{Spelling, Address, FaultRefused, WordTooWide, OffsetsFall, TooManyRequests, TooManyOps, NotInHandler}
 use Rattle.mt_text.specs.Tokens.{Token, begins_word, number_of, hex_of, spot_of}
 use Rattle.mt_text.specs.Forms.{Form, done, none, row, barred, value, spot, mark, Slot, Num, Addr, FlashAddr, OtherAddr, Data, Bit, SpotSlot, RamSpot, OtherSpot, FlashSpot, step, mapped, mapped_ok, value_at, word_at, spot_at, spot_word_at, mark_at, begins_mark, broken_if, spelled, bit_of}
 use Rattle.mt_text.specs.RamServices.{ram_call, ram_handler_call}

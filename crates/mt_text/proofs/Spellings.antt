@@ -1,8 +1,7 @@
 -- The words of a canonical line lead through the table.
-use Rattle.std.proofs.Common.{◌≡◌, ◌≢◌, ℕ, ◌+◌, ◌^◌, ◌<◌, ◌≤◌, ◌==◌, Bool, true, false, List, [], ◌∷◌, ◌++◌, length, Option, Some, None, Result, Ok, Err, refl, sym, ap, subst, ◌∙◌, inl, inr, arith, codes}
+use Rattle.std.proofs.Common.{◌≡◌, ℕ, ◌<◌, ◌≤◌, Bool, true, false, refl, arith}
 use Rattle.std.specs.Fmt.{decimal}
 use Rattle.mt_word.specs.declared.Width.{Width}
-use Rattle.mt_word.specs.Word.{Fits}
 use Rattle.mt_fault.specs.declared.fault.Spot.{Spot}
 use Rattle.mt_fault.specs.declared.fault.Fault.{Fault}
 use Rattle.mt_fault.specs.declared.fault.Fault.TheVariants.{StuckAt, CannotRise, CannotFall, Invert, Force, State, NoCell, Also, Instead}
@@ -17,7 +16,7 @@ use Rattle.mt_text.specs.declared.line.FlsCall.{FlsCall}
 use Rattle.mt_text.specs.declared.line.FlsCall.TheVariants as fls
 use Rattle.mt_text.specs.declared.line.Event.{Event}
 use Rattle.mt_text.specs.declared.line.Event.TheVariants.{Nothing, Ram, Fls, TickRam, TickFls, App, Inject, Heal, Burn, Flip}
-use Rattle.mt_text.specs.Forms.{Form, done, Num, Addr, FlashAddr, OtherAddr, Data, Bit, RamSpot, OtherSpot, FlashSpot, step}
+use Rattle.mt_text.specs.Forms.{done, Num, Addr, FlashAddr, OtherAddr, Data, RamSpot, OtherSpot, FlashSpot}
 use Rattle.mt_text.specs.RamServices.{ram_call}
 use Rattle.mt_text.specs.FlsServices.{fls_call}
 use Rattle.mt_text.specs.Lines.{app_op, fault, event}
@@ -26,7 +25,7 @@ use Rattle.mt_text.specs.Digits.{word_text}
 use Rattle.mt_text.specs.Canonical.{ram_words, fls_words, app_words, fault_words, event_words, spot_text, bit_text, direction_text, wiring_text}
 use Rattle.mt_text.proofs.Pieces.{AreWords, is_text}
 use Rattle.mt_text.proofs.Leading.{Follows, follows_mapped, value_step, spot_step}
-use Rattle.mt_text.proofs.Values.{decimal_is_text, word_is_text, spot_is_text, spot_small, num_reads, addr_reads, flash_reads, other_reads, data_reads, bit_reads, bit_number, spot_reads, other_spot_reads, flash_spot_reads}
+use Rattle.mt_text.proofs.Values.{decimal_is_text, word_is_text, spot_is_text, spot_small, num_reads, addr_reads, flash_reads, other_reads, data_reads, spot_reads, other_spot_reads, flash_spot_reads}
 
 -- ---- services
 

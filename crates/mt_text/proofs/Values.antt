@@ -1,11 +1,11 @@
 -- Numbers, words, bits and spots as they are written spell themselves.
-use Rattle.std.proofs.Common.{◌≡◌, ◌≢◌, ℕ, zero, suc, ◌+◌, ◌-◌, ◌*◌, ◌/◌, ◌%◌, ◌^◌, ◌<◌, ◌≤◌, ◌==◌, not, ◌&&◌, Bool, true, false, cond, List, [], ◌∷◌, ◌++◌, length, take, drop, Option, Some, None, Result, Ok, Err, refl, sym, ap, subst, ◌∙◌, inl, inr, arith, nat_le, nat_lt, lit<, eqb-true, codes, length-append, append_assoc}
+use Rattle.std.proofs.Common.{◌≡◌, ◌≢◌, ℕ, zero, suc, ◌+◌, ◌*◌, ◌/◌, ◌%◌, ◌^◌, ◌<◌, ◌≤◌, ◌==◌, not, ◌&&◌, Bool, true, false, List, [], ◌∷◌, ◌++◌, length, take, drop, Option, Some, refl, ap, ◌∙◌, inl, inr, arith, nat_le, nat_lt, lit<, eqb-true, codes, length-append, append_assoc}
 use Rattle.std.proofs.lemmas.Bool.{cases_Bool}
 use Rattle.std.proofs.lemmas.Bool.Decides.{nat_tests}
 use Rattle.std.proofs.Math.Seq.{take-append_seam, drop-append-add}
 use Rattle.std.proofs.lemmas.Fmt.{decimal_nonempty}
 use Rattle.std.proofs.lemmas.Nat.{pow-add}
-use Rattle.std.specs.List.{list_all, prefix_len, position}
+use Rattle.std.specs.List.{list_all, prefix_len}
 use Rattle.std.specs.Fmt.{decimal}
 use Rattle.mt_word.specs.declared.Width.{Width}
 use Rattle.mt_word.specs.declared.Width.TheVariants.{W8, W16, W32}
@@ -17,7 +17,7 @@ use Rattle.mt_port.specs.Board.{IsWithinLimits}
 use Rattle.mt_text.specs.Tokens.{is_word, begins_word, is_digit, is_hex, hex_digit, hex, hex_of, number_of, point, parts, both as both_numbers, spot_of}
 use Rattle.mt_text.specs.Digits.{digit_byte, hex_text, word_text}
 use Rattle.mt_text.specs.Canonical.{spot_text, bit_text}
-use Rattle.mt_text.specs.Forms.{Slot, Num, Addr, FlashAddr, OtherAddr, Data, Bit, SpotSlot, RamSpot, OtherSpot, FlashSpot, word_at, spot_at, spot_word_at, bit_of}
+use Rattle.mt_text.specs.Forms.{Num, Addr, FlashAddr, OtherAddr, Data, Bit, RamSpot, OtherSpot, FlashSpot}
 use Rattle.mt_text.specs.Accepted.{IsNumber}
 use Rattle.mt_text.proofs.Numbers.{both, number_of_text, text_begins_word, text_digits}
 use Rattle.mt_text.proofs.Pieces.{is_text}

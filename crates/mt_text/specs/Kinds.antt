@@ -1,5 +1,5 @@
 -- Lines by the kinds of their tokens alone, whatever the values are.
-use Rattle.std.specs.Prelude.{◌≡◌, ℕ, Bool, true, false, List, [], ◌∷◌, Option, Some}
+use Rattle.std.specs.Prelude.{◌≡◌, ℕ, Bool, true, false, List, [], ◌∷◌, Some}
 use Rattle.std.specs.Str.{bytes_eq}
 use Rattle.mt_fault.specs.declared.fault.Spot.{Spot}
 use Rattle.mt_text.specs.declared.line.Line.{Line}

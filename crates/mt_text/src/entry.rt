@@ -196,7 +196,7 @@ pub fn entry_text(number: u32, entry: &Entry, width: Width) -> ArrayVec<u8, 64>
     out
 }
 
-/// Writes the trace line of an entry of the line with this number.
+/// Writes the trace line of an entry of the script line with this number, by one call of `put`.
 pub fn write_entry<K: Sink>(
     number: u32,
     entry: &Entry,

@@ -197,7 +197,7 @@ fn push_app_op(out: &mut LineText, spaced: bool, width: Width, op: AppOp)
     }
 }
 
-/// Appends a fault of one bit behind `inject`.
+/// Appends the name of a fault of one bit, and its spot.
 fn push_single(out: &mut LineText, name: &[u8], vic: Spot)
     requires { length out.old.items + length name.now + 23 ≤ 6144 }
     ensures text { out.new.items ≡ out.old.items ++ text_of (spaced_words (name.now ∷ spot_text vic ∷ [])) }
@@ -217,7 +217,7 @@ fn push_pair(out: &mut LineText, agg: Spot, vic: Spot)
     push_spot(out, vic);
 }
 
-/// Appends a fault of one address behind `inject`.
+/// Appends the name of a fault, and two addresses.
 fn push_addresses(out: &mut LineText, name: &[u8], addr: u32, other: u32)
     requires { length out.old.items + length name.now + 23 ≤ 6144 }
     ensures text { out.new.items ≡ out.old.items ++ text_of (spaced_words (name.now ∷ decimal addr ∷ decimal other ∷ [])) }
@@ -228,6 +228,66 @@ fn push_addresses(out: &mut LineText, name: &[u8], addr: u32, other: u32)
     push_argument(out, other);
 }
 
+fn push_stuck_at(out: &mut LineText, vic: Spot, value: bool)
+    requires { length out.old.items + 27 ≤ 6144 }
+    ensures text { out.new.items ≡ out.old.items ++ text_of (spaced_words (codes "sa" ∷ spot_text vic ∷ bit_text value ∷ [])) }
+    ensures short { length out.new.items ≤ length out.old.items + 27 }
+{
+    push_single(out, b"sa", vic);
+    push_bit(out, value);
+}
+
+fn push_invert(out: &mut LineText, agg: Spot, rise: bool, vic: Spot)
+    requires { length out.old.items + 54 ≤ 6144 }
+    ensures text { out.new.items ≡ out.old.items ++ text_of (spaced_words (codes "cfin" ∷ direction_text rise ∷ spot_text agg ∷ spot_text vic ∷ [])) }
+    ensures short { length out.new.items ≤ length out.old.items + 54 }
+{
+    push_token(out, true, b"cfin");
+    push_direction(out, rise);
+    push_pair(out, agg, vic);
+}
+
+fn push_force(out: &mut LineText, agg: Spot, rise: bool, vic: Spot, value: bool)
+    requires { length out.old.items + 56 ≤ 6144 }
+    ensures text { out.new.items ≡ out.old.items ++ text_of (spaced_words (codes "cfid" ∷ direction_text rise ∷ spot_text agg ∷ spot_text vic ∷ bit_text value ∷ [])) }
+    ensures short { length out.new.items ≤ length out.old.items + 56 }
+{
+    push_token(out, true, b"cfid");
+    push_direction(out, rise);
+    push_pair(out, agg, vic);
+    push_bit(out, value);
+}
+
+fn push_state(out: &mut LineText, agg: Spot, holds: bool, vic: Spot, value: bool)
+    requires { length out.old.items + 53 ≤ 6144 }
+    ensures text { out.new.items ≡ out.old.items ++ text_of (spaced_words (codes "cfst" ∷ bit_text holds ∷ spot_text agg ∷ spot_text vic ∷ bit_text value ∷ [])) }
+    ensures short { length out.new.items ≤ length out.old.items + 53 }
+{
+    push_token(out, true, b"cfst");
+    push_bit(out, holds);
+    push_pair(out, agg, vic);
+    push_bit(out, value);
+}
+
+fn push_no_cell(out: &mut LineText, width: Width, addr: u32, seen: u64)
+    requires { length out.old.items + 36 ≤ 6144 }
+    ensures text { out.new.items ≡ out.old.items ++ text_of (spaced_words (codes "af-none" ∷ decimal addr ∷ word_text width seen ∷ [])) }
+    ensures short { length out.new.items ≤ length out.old.items + 36 }
+{
+    push_token(out, true, b"af-none");
+    push_argument(out, addr);
+    push_data(out, width, seen);
+}
+
+fn push_also(out: &mut LineText, addr: u32, other: u32, wired_and: bool)
+    requires { length out.old.items + 34 ≤ 6144 }
+    ensures text { out.new.items ≡ out.old.items ++ text_of (spaced_words (codes "af-also" ∷ decimal addr ∷ decimal other ∷ wiring_text wired_and ∷ [])) }
+    ensures short { length out.new.items ≤ length out.old.items + 34 }
+{
+    push_addresses(out, b"af-also", addr, other);
+    push_wiring(out, wired_and);
+}
+
 /// Appends a fault behind `inject`.
 fn push_fault(out: &mut LineText, width: Width, fault: Fault)
     requires { length out.old.items + 58 ≤ 6144 }
@@ -235,52 +295,28 @@ fn push_fault(out: &mut LineText, width: Width, fault: Fault)
     ensures short { length out.new.items ≤ length out.old.items + 58 }
 {
     match fault {
-        Fault::StuckAt { vic, value } => {
-            push_single(out, b"sa", vic);
-            push_bit(out, value);
-        }
+        Fault::StuckAt { vic, value } => push_stuck_at(out, vic, value),
         Fault::CannotRise { vic } => push_single(out, b"tf-up", vic),
         Fault::CannotFall { vic } => push_single(out, b"tf-down", vic),
-        Fault::Invert { agg, rise, vic } => {
-            push_token(out, true, b"cfin");
-            push_direction(out, rise);
-            push_pair(out, agg, vic);
-        }
+        Fault::Invert { agg, rise, vic } => push_invert(out, agg, rise, vic),
         Fault::Force {
             agg,
             rise,
             vic,
             value,
-        } => {
-            push_token(out, true, b"cfid");
-            push_direction(out, rise);
-            push_pair(out, agg, vic);
-            push_bit(out, value);
-        }
+        } => push_force(out, agg, rise, vic, value),
         Fault::State {
             agg,
             holds,
             vic,
             value,
-        } => {
-            push_token(out, true, b"cfst");
-            push_bit(out, holds);
-            push_pair(out, agg, vic);
-            push_bit(out, value);
-        }
-        Fault::NoCell { addr, seen } => {
-            push_token(out, true, b"af-none");
-            push_argument(out, addr);
-            push_data(out, width, seen);
-        }
+        } => push_state(out, agg, holds, vic, value),
+        Fault::NoCell { addr, seen } => push_no_cell(out, width, addr, seen),
         Fault::Also {
             addr,
             other,
             wired_and,
-        } => {
-            push_addresses(out, b"af-also", addr, other);
-            push_wiring(out, wired_and);
-        }
+        } => push_also(out, addr, other, wired_and),
         Fault::Instead { addr, other } => push_addresses(out, b"af-instead", addr, other),
     }
 }

@@ -4,6 +4,8 @@ use arrayvec::ArrayVec;
 use mt_fault::{Fault, Spot};
 use mt_port::{AppOp, Request};
 
+/// A call of RamTst on a line, named after the services of AUTOSAR SWS RAM Test. A number is a block's, a parameter
+/// set's or a number of cells; whether there is such a block or set is the module's to judge.
 #[derive(Clone, Copy, Debug, PartialEq, Eq)]
 pub enum RamCall {
     Init,
@@ -25,6 +27,7 @@ pub enum RamCall {
     GetVersionInfo,
 }
 
+/// A call of FlsTst on a line, named after the services of AUTOSAR SWS Flash Test. A number is a foreground block's.
 #[derive(Clone, Copy, Debug, PartialEq, Eq)]
 pub enum FlsCall {
     Init,
@@ -40,6 +43,8 @@ pub enum FlsCall {
     GetVersionInfo,
 }
 
+/// What a line asks for. `Nothing` is an empty line or a comment; a tick is the main function of its module; `Burn` sets
+/// a flash word and `Flip` inverts one bit of it.
 #[derive(Clone, Copy, Debug, PartialEq, Eq)]
 pub enum Event {
     Nothing,
@@ -54,12 +59,14 @@ pub enum Event {
     Flip(Spot),
 }
 
+/// A line: its event, and the interrupt requests that come while it runs, in the order of their offsets.
 #[derive(Drop)]
 pub struct Line {
     pub event: Event,
     pub requests: ArrayVec<Request, 16>,
 }
 
+/// The rules of script lines, in the order of their numbers 1 to 9.
 #[derive(Clone, Copy, Debug, PartialEq, Eq)]
 pub enum LineKind {
     Spelling,
@@ -73,6 +80,8 @@ pub enum LineKind {
     FaultRefused,
 }
 
+/// The least rule that the first wrong token breaks, and the place of that token's first byte, counted from 1. Where
+/// the line ends too early it is `Spelling` at the line's length plus 1.
 #[derive(Clone, Copy, Debug, PartialEq, Eq)]
 pub struct LineRefusal {
     pub kind: LineKind,

@@ -73,7 +73,8 @@ pub fn line_text(line: &Line, width: Width) -> LineText
     out
 }
 
-/// Writes the canonical text of a line, with a line feed.
+/// Writes the canonical text of a line, with a line feed, by one call of `put`. Of the shape the width alone matters:
+/// words are written in width divided by 4 digits.
 pub fn write_line<K: Sink>(line: &Line, shape: Shape, sink: &mut K) -> Result<(), Failed>
     ensures ok { OnOk result (Appends (K.held sink.old) (K.held sink.new) (canonical shape.width line.now ++ codes "\n")) }
     ensures err { OnErr result (AppendsFront (K.held sink.old) (K.held sink.new) (canonical shape.width line.now ++ codes "\n")) }

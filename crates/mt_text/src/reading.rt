@@ -114,7 +114,8 @@ fn line_of(text: &[u8], shape: Shape) -> Result<Line, LineRefusal>
     }
 }
 
-/// Reads a line, or answers the least rule that its first wrong token breaks, with its place.
+/// Reads a line without its line feed, or answers the least rule that its first wrong token breaks, with its place.
+/// Each byte but the space, the brackets and the semicolon belongs to a word.
 pub fn read_line(text: &[u8], shape: Shape) -> Result<Line, LineRefusal>
     requires { length text.now ≤ 1024 }
     ensures value { line_of shape text.now ≡ result }

@@ -1,5 +1,3 @@
-ghost use Rattle.std.specs.Prelude.{◌<◌, ◌≤◌, length, IfSome};
-
 use super::*;
 use crate::line_text::line_text;
 use crate::token::number_of;
@@ -9,7 +7,7 @@ use mt_word::Width;
 
 /// Lines that are refused where there are 10 words of 8 bits and no flash: the number of the rule, the place of the
 /// token, and the line.
-const REFUSED: &[u8] = b"1 1 Foo
+const REFUSED: &str = "1 1 Foo
 1 1 RAM Init
 1 4 ram
 1 5 ram Foo
@@ -129,7 +127,7 @@ const REFUSED: &[u8] = b"1 1 Foo
 ";
 
 /// Lines where there are 10 words of 8 bits and 4 flash words, each with its canonical text.
-const SPELLED: &[u8] = b"|
+const SPELLED: &str = "|
    |
 # anything [;]|
   #x|
@@ -307,22 +305,6 @@ fn shape(width: Width, flash: u32) -> Shape {
     }
 }
 
-/// What stands before the first of these bytes, and what stands behind it.
-fn cut(text: &[u8], at: u8) -> Option<(&[u8], &[u8])>
-    ensures { IfSome result (λ p. length p.1.now < length text.now) }
-{
-    let mut rest = text;
-    let mut count = 0;
-    while let [byte, behind @ ..] = rest {
-        if *byte == at {
-            return Some((&text[..count], behind));
-        }
-        rest = behind;
-        count += 1;
-    }
-    None
-}
-
 /// The number of a rule.
 fn number(kind: LineKind) -> u32 {
     match kind {
@@ -349,15 +331,15 @@ fn is_refused(text: &[u8], shape: Shape, rule: u32, place: u32) -> bool {
 }
 
 /// Whether the line of a row is refused as the row says.
-fn is_refused_so(row: &[u8], shape: Shape) -> bool {
-    let Some((rule, rest)) = cut(row, b' ') else {
+fn is_refused_so(row: &str, shape: Shape) -> bool {
+    let Some((rule, rest)) = row.split_once(' ') else {
         return false;
     };
-    let Some((place, text)) = cut(rest, b' ') else {
+    let Some((place, text)) = rest.split_once(' ') else {
         return false;
     };
-    match (number_of(rule), number_of(place)) {
-        (Some(rule), Some(place)) => is_refused(text, shape, rule, place),
+    match (number_of(rule.as_bytes()), number_of(place.as_bytes())) {
+        (Some(rule), Some(place)) => is_refused(text.as_bytes(), shape, rule, place),
         _ => false,
     }
 }
@@ -377,20 +359,18 @@ fn is_spelled(text: &[u8], shape: Shape, canonical: &[u8]) -> bool {
 }
 
 /// Whether the line of a row is written as the row says.
-fn is_spelled_so(row: &[u8], shape: Shape) -> bool {
-    match cut(row, b'|') {
-        Some((text, canonical)) => is_spelled(text, shape, canonical),
+fn is_spelled_so(row: &str, shape: Shape) -> bool {
+    match row.split_once('|') {
+        Some((text, canonical)) => is_spelled(text.as_bytes(), shape, canonical.as_bytes()),
         None => false,
     }
 }
 
 #[test]
 fn refused_lines(rt: HostRuntime) {
-    let mut rows = REFUSED;
-    let mut count = 0u64;
-    while let Some((row, rest)) = cut(rows, b'\n') {
+    let mut count = 0u32;
+    for row in REFUSED.lines() {
         assert!(rt; is_refused_so(row, shape(Width::W8, 0)));
-        rows = rest;
         count = count.wrapping_add(1);
     }
     assert_eq!(rt; count, 117);
@@ -401,11 +381,9 @@ fn refused_lines(rt: HostRuntime) {
 
 #[test]
 fn spelled_lines(rt: HostRuntime) {
-    let mut rows = SPELLED;
-    let mut count = 0u64;
-    while let Some((row, rest)) = cut(rows, b'\n') {
+    let mut count = 0u32;
+    for row in SPELLED.lines() {
         assert!(rt; is_spelled_so(row, shape(Width::W8, 4)));
-        rows = rest;
         count = count.wrapping_add(1);
     }
     assert_eq!(rt; count, 72);

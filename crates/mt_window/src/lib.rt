@@ -1,8 +1,12 @@
-//! Requests of an event: what is answered to them, and what is entered.
+//! Requests of an event: in which order they are served, what is answered to them, and what is entered.
 #![tactic(auto)]
 
+mod laws;
 mod log;
 mod reply;
+mod serve;
 
+pub use laws::{an_event_has_room, requests_are_served};
 pub use log::{Entry, EventLog};
 pub use reply::{AlgorithmName, Detail, Refusal, Reply, ShownState, TestResult, Value};
+pub use serve::{Callee, serve_due, serve_left};

@@ -1,8 +1,6 @@
-use Rattle.std.proofs.Common.{◌≡◌, ◌≤◌, ◌+◌, length, map, ℕ, ◌-◌, ◌*◌, ◌<◌, List, [], ◌∷◌, Option, Some, None, ◌∙◌, sym, ap, subst, arith}
+use Rattle.std.proofs.Common.{◌≡◌, length, map, List, ◌∙◌, sym, ap, arith}
 use Rattle.mt_seq.specs.declared.sequence.Slice.{Slice}
-use Rattle.mt_blocks.specs.declared.span.Span.{Span}
-use Rattle.mt_blocks.specs.declared.pass.Position.{Position}
-use Rattle.mt_blocks.specs.Slices.{Piece, IsValid, piece_at, pass}
+use Rattle.mt_blocks.specs.Slices.{Piece, piece_at, pass}
 use Rattle.mt_blocks.specs.Groups.{ticks}
 use Rattle.mt_blocks.proofs.Passes.{from_next, next_valid, pass-start, start_of-valid}
 use Rattle.mt_blocks.proofs.Cuts.{opened, opened-ticks, next_step, turn_fits, turn_begins, small-pass, some-pass, pass_short}

@@ -1,10 +1,9 @@
-use Rattle.std.proofs.Common.{◌≡◌, ◌<◌, ◌∙◌, ◌++◌, ◌∷◌, [], ap, sym, subst, refl, arith, take, drop, length, length-append, List, ℕ, Bool, true, false, Some, None}
+use Rattle.std.proofs.Common.{◌≡◌, ◌∙◌, ◌++◌, ◌∷◌, [], ap, sym, subst, arith, drop, length, length-append, List, ℕ}
 use Rattle.std.specs.Io.KnownBytes.{prepend_known}
 use Rattle.std.specs.Str.{bytes_eq}
 use Rattle.mt_replay.specs.Input.{separator}
 use Rattle.mt_replay.proofs.Texts.{OnErr-any}
-use Rattle.mt_replay.proofs.Lines.{Filled}
-use Rattle.mt_replay.proofs.Heads.{Begun, Begun-none, Keeps, keeps_byte, head_parts, head_parts_at_end, head_whole, head_breaks, head_exceeds, next_begun, next_within}
+use Rattle.mt_replay.proofs.Heads.{Keeps, keeps_byte, head_parts, head_parts_at_end, head_whole, head_breaks, head_exceeds, next_begun, next_within}
 use Rattle.mt_replay.proofs.head.read_head.Goals as goal
 
 pub returns-in_err-fill-clause-err : goal.returns-in_err-fill-clause-err

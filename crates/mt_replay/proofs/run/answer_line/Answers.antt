@@ -1,8 +1,9 @@
-use Rattle.std.proofs.Common.{◌≡◌, ◌∷◌, [], refl, sym, ap, ◌∙◌, subst, Option}
+use Rattle.std.proofs.Common.{◌∷◌, [], sym, ap, ◌∙◌, subst, Option}
 use Rattle.mt_port.specs.Streams.{AppendsFront}
 use Rattle.mt_port.proofs.StreamLemmas.{Appends-nil}
 use Rattle.mt_window.specs.declared.log.Entry.TheVariants.{Own}
-use Rattle.mt_replay.specs.Machine.{Machine, Step}
+use Rattle.mt_replay.specs.Machine.{Step}
+use Rattle.mt_replay.specs.Ram.{Machine}
 use Rattle.mt_replay.specs.Outcome.{stepped, refused}
 use Rattle.mt_replay.proofs.Texts.{entries_text-nil, entries_text-one}
 use Rattle.mt_replay.proofs.Turns.{answered_line, fronted_line, refused_line}

@@ -1,7 +1,7 @@
-use Rattle.std.proofs.Common.{◌≡◌, refl, sym, ap, ◌∙◌, Result, Ok, Err, ℕ}
+use Rattle.std.proofs.Common.{sym, ap, ◌∙◌, Result, ℕ}
 use Rattle.mt_text.specs.declared.line.Line.{Line}
 use Rattle.mt_text.specs.declared.line.LineRefusal.{LineRefusal}
-use Rattle.mt_replay.specs.Machine.{Machine}
+use Rattle.mt_replay.specs.Ram.{Machine}
 use Rattle.mt_replay.specs.Outcome.{answered, refused}
 use Rattle.mt_replay.proofs.Turns.{LineGives-same, refused_line, judged-is}
 use Rattle.mt_replay.proofs.run.judge_line.Goals as goal

@@ -1,6 +1,5 @@
-use Rattle.std.proofs.Common.{◌≡◌, refl, Ok, Err}
-use Rattle.mt_replay.specs.declared.run.Turn.TheVariants.{More}
-use Rattle.mt_replay.specs.Machine.{Machine}
+use Rattle.std.proofs.Common.{refl}
+use Rattle.mt_replay.specs.Ram.{Machine}
 use Rattle.mt_replay.specs.Outcome.{done}
 use Rattle.mt_replay.proofs.Turns.{then_end, cut_off_end}
 use Rattle.mt_replay.proofs.run.last_line.Goals as goal

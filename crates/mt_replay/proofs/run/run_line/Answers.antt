@@ -1,8 +1,7 @@
-use Rattle.std.proofs.Common.{◌≡◌, refl, sym, subst, ◌-◌, List, ℕ}
-use Rattle.mt_replay.specs.Machine.{Machine}
+use Rattle.std.proofs.Common.{◌-◌}
+use Rattle.mt_replay.specs.Ram.{Machine}
 use Rattle.mt_replay.specs.Outcome.{done, refused, judged}
-use Rattle.mt_replay.specs.Run.{LineGives, EndGives}
-use Rattle.mt_replay.proofs.Runs.{change, whole_turn, end_turn, last_leaves, end_leaves, long_leaves, broken_turn}
+use Rattle.mt_replay.proofs.Runs.{whole_turn, end_turn, last_leaves, end_leaves, long_leaves, broken_turn}
 use Rattle.mt_replay.proofs.run.run_line.Goals as goal
 
 pub returns-in_default-clause-gives : goal.returns-in_default-clause-gives

@@ -1,10 +1,5 @@
-use Rattle.std.proofs.Common.{◌≡◌, ◌≢◌, Ok, Bool, true, false, refl, subst}
-use Rattle.std.specs.Io.KnownBytes.{prepend_known}
-use Rattle.mt_replay.specs.declared.run.Turn.TheVariants as turn
-use Rattle.mt_replay.specs.Machine.{Machine}
 use Rattle.mt_replay.specs.Outcome.{done, refused}
-use Rattle.mt_replay.specs.Run.{EndGives}
-use Rattle.mt_replay.proofs.Runs.{change, end_turn, past_leaves, past_done, past_breaks}
+use Rattle.mt_replay.proofs.Runs.{end_turn, past_leaves, past_done, past_breaks}
 use Rattle.mt_replay.proofs.run.run_past.Goals as goal
 
 pub returns-in-Ok-true-clause-gives : goal.returns-in-Ok-true-clause-gives

@@ -1,8 +1,8 @@
 use Rattle.std.proofs.Common.{◌≡◌, ◌∙◌, refl, arith, ℕ, Ok, Err, subst}
 use Rattle.std.specs.Io.KnownBytes.{prepend_known}
 use Rattle.mt_replay.specs.declared.run.Turn.TheVariants as turn
-use Rattle.mt_replay.specs.Machine.{Machine}
-use Rattle.mt_replay.specs.Run.{Goes, TurnGives}
+use Rattle.mt_replay.specs.Ram.{Machine}
+use Rattle.mt_replay.specs.Run.{Goes}
 use Rattle.mt_replay.proofs.Runs.{change, Goes-none, Goes-goes, turn_ends}
 use Rattle.mt_replay.proofs.run.run_script.Goals as goal
 

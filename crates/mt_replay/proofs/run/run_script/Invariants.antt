@@ -1,6 +1,6 @@
 use Rattle.std.proofs.Common.{◌≡◌}
 use Rattle.std.specs.Io.KnownBytes.{prepend_known}
-use Rattle.mt_replay.specs.Machine.{Machine, IsReady}
+use Rattle.mt_replay.specs.Machine.{IsReady}
 use Rattle.mt_replay.specs.Run.{Goes}
 use Rattle.mt_replay.proofs.Runs.{change}
 use Rattle.mt_replay.proofs.run.run_script.Given as goal

@@ -1,4 +1,4 @@
-use Rattle.std.proofs.Common.{◌≡◌, ◌≤◌, ◌+◌, ◌*◌, arith, ap, length}
+use Rattle.std.proofs.Common.{arith}
 use Rattle.mt_text.proofs.PieceLemmas.{op_written}
 use Rattle.mt_text.proofs.line_text.push_further_ops.Goals as goal
 

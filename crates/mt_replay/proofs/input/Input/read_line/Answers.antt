@@ -1,4 +1,4 @@
-use Rattle.std.proofs.Common.{◌≡◌, ◌∙◌, ◌<◌, Bool, ap, arith, subst, sym, length, length-append}
+use Rattle.std.proofs.Common.{◌∙◌, Bool, subst, sym}
 use Rattle.std.specs.Io.KnownBytes.{prepend_known}
 use Rattle.mt_replay.proofs.Feeds.{HasNoFeed-append}
 use Rattle.mt_replay.specs.Input.{HasNoFeed}

@@ -1,5 +1,5 @@
-use Rattle.std.proofs.Common.{◌≡◌, ◌<◌, ◌∙◌, ◌+◌, ◌∷◌, ◌++◌, ap, sym, subst, arith, take, drop, length, List, ℕ}
-use Rattle.std.proofs.lemmas.List.{take-append-drop, drop_all, take_all, length-take-le}
+use Rattle.std.proofs.Common.{◌≡◌, ◌<◌, ◌∙◌, ap, sym, subst, arith, take, drop, length}
+use Rattle.std.proofs.lemmas.List.{take-append-drop, drop_all, take_all}
 use Rattle.std.proofs.lemmas.Grind.{common_steps}
 use Rattle.mt_replay.specs.Input.{HasNoFeed}
 use Rattle.mt_replay.proofs.Feeds.{splits, feed_len, Splits}

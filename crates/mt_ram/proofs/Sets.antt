@@ -1,0 +1,74 @@
+-- The sets of an accepted configuration.
+use Rattle.std.proofs.Common.{ℕ, ◌*◌, ◌<◌, ◌≤◌, ◌≡◌, List, length, refl, sym, ap, ◌∙◌, subst, arith, Option, Some, None}
+use Rattle.std.proofs.Math.Nat.{div-eq_of_lt}
+use Rattle.std.proofs.lemmas.List.{length-map, get_or-map}
+use Rattle.mt_port.specs.declared.board.Shape.{Shape}
+use Rattle.mt_port.specs.Board.{IsWithinLimits}
+use Rattle.mt_seq.specs.Sequence.{IsSoundJob}
+use Rattle.mt_blocks.specs.declared.span.Span.{Span}
+use Rattle.mt_blocks.specs.declared.pass.Position.{Position}
+use Rattle.mt_blocks.specs.declared.config.Block.{Block}
+use Rattle.mt_blocks.specs.declared.config.ParamSet.{ParamSet}
+use Rattle.mt_blocks.specs.Slices.{AreSpans, IsValid, span_at, no_span, next_of}
+use Rattle.mt_blocks.specs.Accepted.{IsAcceptedBlock, IsAcceptedSet, block_at, no_block, no_set, spans_of}
+use Rattle.mt_blocks.proofs.Passes.{next_valid}
+use Rattle.mt_seq.specs.declared.sequence.Job.{Job}
+use Rattle.mt_seq.specs.Sequence.{sequence_hold}
+use Rattle.mt_seq.proofs.Lengths.{holds_are_short}
+use Rattle.mt_plan.specs.Plan.{IsAccepted}
+use Rattle.mt_ram.specs.State.{RamTst, IsRam, set_of}
+use Rattle.mt_ram.specs.Event.{job_in, or_start}
+
+pub spans_at : (blocks : List Block) (i : ℕ) → i < length blocks → span_at (spans_of blocks) i ≡ (block_at blocks i).span
+spans_at blocks i inside = get_or-map (λ (b : Block). b.span) blocks i no_block no_span inside
+
+pub accepted_block : (shape : Shape) (set : ParamSet) (i : ℕ) → IsAcceptedSet shape set → i < length set.blocks → IsAcceptedBlock shape (block_at set.blocks i)
+accepted_block shape set i ok inside = ok.blocks i no_block inside
+
+pub accepted_spans : (shape : Shape) (set : ParamSet) → IsWithinLimits shape → IsAcceptedSet shape set → AreSpans set.atomic (spans_of set.blocks)
+accepted_spans shape set limits ok =
+    let many = length-map set.blocks (λ (b : Block). b.span) in
+    record {
+      some = ok.atomic_some;
+      small = ok.atomic_small;
+      few = omega (arith, many, ok.few);
+      ordered = λ i h. let inside : i < length set.blocks = omega (arith, many, h) in
+          subst (λ (s : Span). s.first ≤ s.last) (sym (spans_at set.blocks i inside)) (accepted_block shape set i ok inside).ordered;
+      limit = λ i h. let inside : i < length set.blocks = omega (arith, many, h) in
+          subst (λ (s : Span). s.last < 65536) (sym (spans_at set.blocks i inside)) (let low = (accepted_block shape set i ok inside).inside in omega (arith, low, limits.ram));
+    }
+
+pub block_there : (set : ParamSet) (at : Position) → IsValid set.atomic (spans_of set.blocks) at → at.block < length set.blocks
+block_there set at valid = omega (arith, length-map set.blocks (λ (b : Block). b.span), valid.block)
+
+pub sound_job : (shape : Shape) (set : ParamSet) (at : Position) → IsAcceptedSet shape set → IsValid set.atomic (spans_of set.blocks) at → IsSoundJob shape.width (job_in set at.block)
+sound_job shape set at ok valid =
+    let inside = block_there set at valid in
+    record {
+      accepted = ok.accepted;
+      kept = λ h. ok.kept h at.block no_block inside;
+      background = ok.background;
+      fill = (accepted_block shape set at.block ok inside).fill;
+    }
+
+-- the selected set is an accepted one
+pub accepted_set : (r : RamTst) → IsRam r → IsAcceptedSet r.setting.shape (set_of r)
+accepted_set r ok = ok.accepted.sets r.selected no_set ok.selected
+
+pub hold_small : (job : Job) (n : ℕ) → IsAccepted job.alg → n ≤ 64 → sequence_hold job n ≤ 262 * 64
+hold_small job n accepted small = omega (arith, holds_are_short job n accepted small, small)
+
+pub start_valid : (K : ℕ) (spans : List Span) (i : ℕ) → AreSpans K spans → i < length spans → IsValid K spans (record { block = i; offset = 0 })
+start_valid K spans i ok inside = record {
+  block = inside;
+  offset = omega arith;
+  multiple = (let z : 0 ≡ 0 * K = omega arith in z) ∙ ap (λ (n : ℕ). n * K) (sym (div-eq_of_lt {n = 0} {m = K} (omega (arith, ok.some))));
+}
+
+-- the next position of the pass is that of a slice
+pub or_start-valid : (K : ℕ) (spans : List Span) (p : Position) → AreSpans K spans → IsValid K spans p → IsValid K spans (or_start (next_of K spans p))
+or_start-valid K spans p ok valid = of (next_of K spans p) refl
+  where
+    of : (o : Option Position) → next_of K spans p ≡ o → IsValid K spans (or_start o)
+    of None e = start_valid K spans 0 ok (omega (arith, valid.block))
+    of (Some q) e = next_valid K spans p q ok valid e

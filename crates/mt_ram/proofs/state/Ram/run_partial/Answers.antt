@@ -1,0 +1,40 @@
+use Rattle.std.proofs.Common.{◌≡◌, ◌∙◌, ap, sym}
+use Rattle.mt_window.specs.Serving.{Scene, scene, serve_due}
+use Rattle.mt_ram.specs.State.{RamTst}
+use Rattle.mt_ram.specs.Event.{partial_test}
+use Rattle.mt_ram.specs.Table.{RunPartialTest, ram_table}
+use Rattle.mt_window.specs.Events.{opened, event}
+use Rattle.mt_window.proofs.Events.{event-after, event-board}
+use Rattle.mt_ram.proofs.Settings.{test_leaves}
+use Rattle.mt_ram.proofs.Moves.{at_boundary}
+use Rattle.mt_ram.proofs.state.Ram.run_partial.Goals as goal
+
+pub run_partial_from-requires-clause-shape : goal.run_partial_from-requires-clause-shape
+run_partial_from-requires-clause-shape g c =
+    let b = at_boundary (scene (g.P.Port.state c.args.port.now) c.begin.new.self c.args.log.now) (scene (g.P.Port.state c.serve_due.new.port) c.serve_due.new.callee c.serve_due.new.log) c.serve_due.ensures.scene in
+    b.shape ∙ c.requires.shape ∙ sym (ap (λ (r : RamTst). r.setting.shape) (b.moved.still) ∙ ap (λ (r : RamTst). r.setting.shape) c.begin.ensures)
+
+pub run_partial_from-requires-clause-start : goal.run_partial_from-requires-clause-start
+run_partial_from-requires-clause-start g c =
+    let b = at_boundary (scene (g.P.Port.state c.args.port.now) c.begin.new.self c.args.log.now) (scene (g.P.Port.state c.serve_due.new.port) c.serve_due.new.callee c.serve_due.new.log) c.serve_due.ensures.scene in
+    b.count ∙ c.requires.start
+
+pub returns-clause-setting : goal.returns-clause-setting
+returns-clause-setting g c =
+    let s = scene (g.P.Port.state c.args.port.now) c.args.self.now c.args.log.now in
+    let o = scene (g.P.Port.state c.serve_due.new.port) c.serve_due.new.callee c.serve_due.new.log in
+    let z = scene (g.P.Port.state c.run_partial_from.new.port) c.run_partial_from.new.self c.run_partial_from.new.log in
+    let f = scene (g.P.Port.state c.serve_left.new.port) c.serve_left.new.callee c.serve_left.new.log in
+    let first : o ≡ opened (partial_test c.args.block) s = c.serve_due.ensures.scene ∙ ap (λ (r : RamTst). serve_due ram_table (scene s.board r s.log)) c.begin.ensures in
+    let after : f ≡ (event (partial_test c.args.block) s).after = event-after (partial_test c.args.block) s o z f first c.run_partial_from.ensures.scene c.serve_left.ensures.scene in
+    ap (λ (x : Scene RamTst). x.callee.setting) after ∙ test_leaves (RunPartialTest c.args.block) s
+
+pub returns-clause-shape : goal.returns-clause-shape
+returns-clause-shape g c =
+    let s = scene (g.P.Port.state c.args.port.now) c.args.self.now c.args.log.now in
+    let o = scene (g.P.Port.state c.serve_due.new.port) c.serve_due.new.callee c.serve_due.new.log in
+    let z = scene (g.P.Port.state c.run_partial_from.new.port) c.run_partial_from.new.self c.run_partial_from.new.log in
+    let f = scene (g.P.Port.state c.serve_left.new.port) c.serve_left.new.callee c.serve_left.new.log in
+    let first : o ≡ opened (partial_test c.args.block) s = c.serve_due.ensures.scene ∙ ap (λ (r : RamTst). serve_due ram_table (scene s.board r s.log)) c.begin.ensures in
+    let after : f ≡ (event (partial_test c.args.block) s).after = event-after (partial_test c.args.block) s o z f first c.run_partial_from.ensures.scene c.serve_left.ensures.scene in
+    ap (λ (x : Scene RamTst). x.board.shape) after ∙ (event-board (partial_test c.args.block) s).shape

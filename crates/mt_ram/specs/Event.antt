@@ -1,0 +1,136 @@
+-- One running event of RamTst.
+use Rattle.std.specs.Prelude.{ℕ, Bool, false, not, ◌&&◌, if◌then◌else◌, List, [], slice_index_or, slice_set, Option, Some, None}
+use Rattle.mt_seq.specs.declared.sequence.Job.{Job}
+use Rattle.mt_seq.specs.declared.sequence.Verdict.{Verdict}
+use Rattle.mt_seq.specs.Sequence.{sequence_words, sequence_verdict, sequence_hold, sequence_touches}
+use Rattle.mt_window.specs.declared.reply.TestResult.TheVariants.{NotTested}
+use Rattle.mt_window.specs.Slices.{Tests}
+use Rattle.mt_window.specs.Events.{Running as Events}
+use Rattle.mt_blocks.specs.declared.config.ParamSet.{ParamSet}
+use Rattle.mt_blocks.specs.declared.pass.Position.{Position}
+use Rattle.mt_blocks.specs.Slices.{Piece, next_of, start, span_at, ends_block, from_place, block_from}
+use Rattle.mt_blocks.specs.Accepted.{block_at, spans_of}
+use Rattle.mt_ram.specs.declared.state.State.TheVariants.{Running}
+use Rattle.mt_ram.specs.State.{RamTst, set_of, spans_in}
+use Rattle.mt_ram.specs.Results.{result_after, failed_after}
+use Rattle.mt_ram.specs.Table.{Service, RunFullTest, RunPartialTest, MainFunction, Cell, Refuses, Goes, Answers, Rests, Ticks, Runs, row, reply_in, ram_table}
+
+-- how a block of a set is tested
+abbrev pub job_in : ParamSet → ℕ → Job
+job_in set block =
+    record {
+      alg = set.alg;
+      policy = (block_at set.blocks block).policy;
+      background = set.background;
+      fill = (block_at set.blocks block).fill;
+    }
+
+abbrev pub job_of : RamTst → Piece → Job
+job_of r p = job_in (set_of r) p.place.block
+
+-- the block's result after a slice
+abbrev pub with_result : RamTst → Piece → Verdict → Bool → RamTst
+with_result r p v failed =
+    record r {
+      results = slice_set r.results p.place.block (result_after (slice_index_or r.results p.place.block NotTested) v failed p.last);
+    }
+
+-- the next position of the pass; after its last slice its start
+abbrev pub or_start : Option Position → Position
+or_start None = start
+or_start (Some p) = p
+
+abbrev pub next_place : RamTst → Position → Position
+next_place r p = or_start (next_of (set_of r).atomic (spans_in r) p)
+
+-- the module at the end of a slice of the pass, whose test keeps its own failure
+abbrev pub passed : RamTst → Piece → Verdict → RamTst
+passed r p v =
+    record (with_result r p v r.failed) { state = Running (next_place r p.place); failed = failed_after v r.failed p.last }
+
+-- the slices of a tick: the group is left at the first boundary by which a Stop or a Suspend was accepted
+abbrev pub of_pass : Tests RamTst Piece Verdict
+of_pass = record {
+  table = ram_table;
+  stops = λ r. r.mark;
+  words = λ r p b. sequence_words b (job_of r p) p.slice;
+  hold = λ r p. sequence_hold (job_of r p) p.slice.n;
+  verdict = λ r p b. sequence_verdict b (job_of r p) p.slice;
+  touches = λ r p b. sequence_touches b (job_of r p) p.slice;
+  taken = λ r p v failed. passed r p v;
+  failed = λ p v failed. failed;
+}
+
+-- the slices of a full or partial test, whose failure is kept apart from that of the pass
+abbrev pub of_test : Tests RamTst Piece Verdict
+of_test = record {
+  table = ram_table;
+  stops = λ r. false;
+  words = λ r p b. sequence_words b (job_of r p) p.slice;
+  hold = λ r p. sequence_hold (job_of r p) p.slice.n;
+  verdict = λ r p b. sequence_verdict b (job_of r p) p.slice;
+  touches = λ r p b. sequence_touches b (job_of r p) p.slice;
+  taken = with_result;
+  failed = λ p v failed. failed_after v failed p.last;
+}
+
+-- the slices of a full or partial test from a position on: those of the pass, or of the block
+abbrev pub test_from : Bool → ParamSet → Position → List Piece
+test_from whole set p =
+    if whole then from_place set.atomic (spans_of set.blocks) p else block_from set.atomic (spans_of set.blocks) p
+
+-- the position after one of them, and the slices from there on
+abbrev pub next_in : Bool → ParamSet → Position → Option Position
+next_in whole set p =
+    if not whole && ends_block set.atomic (span_at (spans_of set.blocks) p.block) p.offset then None
+    else next_of set.atomic (spans_of set.blocks) p
+
+abbrev pub test_rest : Bool → ParamSet → Option Position → List Piece
+test_rest whole set None = []
+test_rest whole set (Some p) = test_from whole set p
+
+-- the slices that a cell has tested
+abbrev pub work_in : Cell → List Piece
+work_in (Refuses why) = []
+work_in (Goes next) = []
+work_in (Answers what) = []
+work_in Rests = []
+work_in (Ticks slices) = slices
+work_in (Runs slices inside back) = slices
+
+-- the module inside a test, and back after it
+abbrev pub inside_of : Cell → RamTst → RamTst
+inside_of (Refuses why) r = r
+inside_of (Goes next) r = r
+inside_of (Answers what) r = r
+inside_of Rests r = r
+inside_of (Ticks slices) r = r
+inside_of (Runs slices inside back) r = record r { state = inside }
+
+abbrev pub back_from : Cell → RamTst → RamTst
+back_from (Refuses why) r = r
+back_from (Goes next) r = r
+back_from (Answers what) r = r
+back_from Rests r = r
+back_from (Ticks slices) r = r
+back_from (Runs slices inside back) r = record r { state = back }
+
+-- a running call: its cell in the table, by the state just after boundary 0, says what is done
+abbrev pub running : Tests RamTst Piece Verdict → Service → Events RamTst Piece Verdict
+running tests service = record {
+  tests = tests;
+  cleared = λ r. record r { mark = false };
+  work = λ r. work_in (row r service);
+  inside = λ r. inside_of (row r service) r;
+  back = λ o r. back_from (row o service) r;
+  reply = λ o made. reply_in (row o service) made;
+}
+
+abbrev pub ticking : Events RamTst Piece Verdict
+ticking = running of_pass MainFunction
+
+abbrev pub full_test : Events RamTst Piece Verdict
+full_test = running of_test RunFullTest
+
+abbrev pub partial_test : ℕ → Events RamTst Piece Verdict
+partial_test block = running of_test (RunPartialTest block)

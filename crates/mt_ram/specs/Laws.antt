@@ -1,0 +1,41 @@
+-- What running events and boundaries are known by.
+use Rattle.std.specs.Prelude.{ℕ, ◌≡◌, false, [], All}
+use Rattle.mt_port.specs.Board.{AreOrdered}
+use Rattle.mt_window.specs.Serving.{Scene, serve_due, serve_left}
+use Rattle.mt_window.specs.Events.{Running as Events, event, event_attempts}
+use Rattle.mt_window.specs.Waits.{IsShort}
+use Rattle.mt_seq.specs.declared.sequence.Verdict.{Verdict}
+use Rattle.mt_blocks.specs.Slices.{Piece}
+use Rattle.mt_ram.specs.State.{RamTst, IsRunning, IsInside}
+use Rattle.mt_ram.specs.Table.{Service, after, ram_table}
+use Rattle.mt_ram.specs.Event.{partial_test}
+
+-- each wait of the event is 0, or below the length of the sequence that the request meets
+abbrev pub WaitsAreShortIn : Events RamTst Piece Verdict → Type 0
+WaitsAreShortIn call =
+    (s : Scene RamTst) → s.log ≡ [] → s.board.count ≡ 0 → AreOrdered s.board.left → All (IsShort (event_attempts call s)) ((event call s).after.log)
+
+abbrev pub WaitsOfPartialTests : Type 0
+WaitsOfPartialTests = (block : ℕ) → WaitsAreShortIn (partial_test block)
+
+-- What handlers' calls leave of RamTst. Setting, selected set, number of cells and results stay. Where no Stop and no
+-- Suspend was accepted, a running pass goes on where it stood. Inside a full or partial test nothing changes.
+pub record Moves (a b : RamTst) : Type 0 where
+  pub still : b ≡ record a { state = b.state; failed = b.failed; mark = b.mark }
+  pub unmarked : b.mark ≡ false → a.mark ≡ false
+  pub running : b.mark ≡ false → IsRunning a.state → b.state ≡ a.state
+  pub inside : IsInside a.state → b ≡ a
+
+-- that is what a boundary leaves, and the serving of the requests left
+abbrev pub BoundariesMove : Type 0
+BoundariesMove = (s : Scene RamTst) → Moves s.callee ((serve_due ram_table s).callee)
+
+abbrev pub RequestsLeftMove : Type 0
+RequestsLeftMove = (s : Scene RamTst) → Moves s.callee ((serve_left ram_table s).callee)
+
+-- no service changes the setting, and no running event
+abbrev pub ServicesLeaveSetting : Type 0
+ServicesLeaveSetting = (r : RamTst) (service : Service) → (after r service).setting ≡ r.setting
+
+abbrev pub LeavesSetting : Events RamTst Piece Verdict → Type 0
+LeavesSetting call = (s : Scene RamTst) → ((event call s).after.callee).setting ≡ s.callee.setting

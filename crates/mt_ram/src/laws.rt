@@ -1,0 +1,22 @@
+//! Laws of RamTst.
+
+ghost use Rattle.mt_ram.specs.Event.{ticking, full_test};
+ghost use Rattle.mt_ram.specs.Laws.{WaitsAreShortIn, WaitsOfPartialTests, BoundariesMove, RequestsLeftMove, ServicesLeaveSetting};
+
+/// Each request of a running event waits 0, or less than the length of the sequence that it meets.
+pub fn waits_of_running_calls()
+    ensures tick { WaitsAreShortIn ticking }
+    ensures full { WaitsAreShortIn full_test }
+    ensures partial { WaitsOfPartialTests }
+{}
+
+/// What handlers' calls leave of the module.
+pub fn handlers_leave_results()
+    ensures boundary { BoundariesMove }
+    ensures left { RequestsLeftMove }
+{}
+
+/// No service changes the configuration or the shape.
+pub fn services_leave_setting()
+    ensures { ServicesLeaveSetting }
+{}

@@ -1,0 +1,16 @@
+//! The module RamTst, after AUTOSAR, Specification of RAM Test: its services, its state table, and its running calls.
+#![tactic(auto)]
+
+mod callee;
+mod laws;
+mod result;
+mod running;
+mod services;
+mod slice;
+mod state;
+
+pub use laws::{handlers_leave_results, services_leave_setting, waits_of_running_calls};
+pub use state::{Ram, State};
+
+#[cfg(test)]
+mod tests;

@@ -1,0 +1,14 @@
+use Rattle.std.proofs.Common.{◌≡◌, length}
+use Rattle.mt_window.specs.Serving.{scene, serve_due, IsReady}
+use Rattle.mt_window.proofs.serve.serve_due.Given as goal
+
+abbrev pub invariant-loop-due : goal.invariant-loop-due
+invariant-loop-due g l = record {
+  ready : IsReady g.C.Callee.kind (g.P.Port.state l.port) l.log;
+  same : serve_due g.C.Callee.table (scene (g.P.Port.state l.port) l.callee l.log)
+      ≡ serve_due g.C.Callee.table (scene (g.P.Port.state l.initial.port) l.initial.callee l.initial.log);
+  tape : g.P.Port.tape l.port ≡ g.P.Port.tape l.initial.port;
+}
+
+abbrev pub decreases-loop-due : goal.decreases-loop-due
+decreases-loop-due g l = length (g.P.Port.state l.port).left
