@@ -29,3 +29,6 @@ fn main(rt: HostRuntime) -> ExitCode {
     let status = replay(rt.alloc(), &words, &mut source, &mut sink, &mut board);
     ExitCode::from(exit_number(&status))
 }
+
+#[cfg(test)]
+mod tests;
