@@ -7,3 +7,4 @@ pub mod Covered
 pub mod Stuck
 pub mod Walks
 pub mod Table
+pub mod Detection

@@ -4,6 +4,7 @@ ghost use Rattle.std.specs.Prelude.{◌≡◌, ◌↔◌, IsTrue, [], ◌∷◌}
 ghost use Rattle.mt_march.specs.Known.{march_c_minus};
 ghost use Rattle.mt_march.specs.Value.{element as element_of};
 ghost use Rattle.mt_cover.specs.Coverage.{IsTabled, Coverage};
+ghost use Rattle.mt_cover.specs.Detection.{Detection};
 
 use crate::class::Class;
 use mt_march::{Element, March, Op, Order};
@@ -66,4 +67,10 @@ pub fn covers(algorithm: &Algorithm, class: Class) -> bool
 /// than it expects: for any number of cells, any background words, any first words and any accesses before.
 pub fn each_tabled_fault_is_caught()
     ensures { Coverage }
+{}
+
+/// A sequence on a slice with such a fault inside answers `Fail`, whatever the board's words are.
+#[tactic(auto, using(crate::proofs::Detection::detection))]
+pub fn each_tabled_fault_in_a_slice_fails()
+    ensures { Detection }
 {}

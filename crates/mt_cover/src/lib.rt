@@ -5,7 +5,7 @@ mod class;
 mod coverage;
 
 pub use class::{Class, class_of};
-pub use coverage::{covers, each_tabled_fault_is_caught};
+pub use coverage::{covers, each_tabled_fault_in_a_slice_fails, each_tabled_fault_is_caught};
 
 #[cfg(test)]
 mod tests;

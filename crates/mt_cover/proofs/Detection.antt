@@ -1,0 +1,98 @@
+-- From coverage to sequences.
+use Rattle.std.proofs.Common.{ℕ, zero, suc, ◌+◌, ◌<◌, ◌≤◌, ◌≡◌, true, List, [], ◌∷◌, length, map, get_or, All, Option, Some, refl, sym, ap, ◌∙◌, subst, arith}
+use Rattle.std.specs.Prelude.{slice_index}
+use Rattle.std.proofs.lemmas.List.Elements.{All-map, All-nil, All-push}
+use Rattle.mt_word.specs.declared.Width.{Width}
+use Rattle.mt_word.specs.Word.{Fits}
+use Rattle.mt_fault.specs.declared.fault.Fault.{Fault}
+use Rattle.mt_fault.specs.declared.fault.Fault.TheVariants.{StuckAt, CannotRise, CannotFall, Invert, Force, State, NoCell, Also, Instead}
+use Rattle.mt_fault.specs.Faulty.{answer, answer_under}
+use Rattle.mt_fault.specs.Items.{Item, passes}
+use Rattle.mt_fault.specs.Memory as memory
+use Rattle.mt_fault.proofs.Steps.{answer_at, answer_settled}
+use Rattle.mt_plan.specs.declared.algorithm.Algorithm.{Algorithm}
+use Rattle.mt_plan.specs.declared.algorithm.Algorithm.TheVariants.{Checkerboard, March, WalkPath, Galpat, TransparentGalpat}
+use Rattle.mt_plan.specs.declared.algorithm.Act.{Act}
+use Rattle.mt_plan.specs.declared.algorithm.Act.TheVariants.{WritePlain, WriteFlipped, ReadPlain, ReadFlipped}
+use Rattle.mt_plan.specs.declared.algorithm.Policy.{Policy}
+use Rattle.mt_plan.specs.declared.algorithm.Policy.TheVariants.{NonDestructive}
+use Rattle.mt_plan.specs.declared.algorithm.Step.{Step}
+use Rattle.mt_plan.specs.Lists.{cells}
+use Rattle.mt_plan.specs.Plan.{steps_of}
+use Rattle.mt_seq.specs.declared.sequence.Slice.{Slice}
+use Rattle.mt_seq.specs.Sequence.{saved_words, testing, back_of, is_transparent}
+use Rattle.mt_seq.specs.Sequence.{act_on as act_in_sequence, item_of as item_in_sequence}
+use Rattle.mt_seq.proofs.Lengths.{length-saved}
+use Rattle.mt_seq.proofs.Sound.{caught_fails}
+use Rattle.mt_cover.specs.Coverage.{act_on, item_of, class_of, IsTabled, IsWalkTabled}
+use Rattle.mt_cover.specs.Detection.{Detection}
+use Rattle.mt_cover.proofs.Table.{coverage}
+
+-- the accesses of a sequence are those of coverage
+same_act : (width : Width) (addr back : ℕ) (act : Act) → act_in_sequence width addr back act ≡ act_on width addr back act
+same_act width addr back WritePlain = refl
+same_act width addr back WriteFlipped = refl
+same_act width addr back ReadPlain = refl
+same_act width addr back ReadFlipped = refl
+
+same_items : (width : Width) (first : ℕ) (back : ℕ → ℕ) (steps : List Step) → map (item_in_sequence width first back) steps ≡ map (item_of width first back) steps
+same_items width first back [] = refl
+same_items width first back (step ∷ steps) =
+    ap (λ (i : Item). i ∷ map (item_in_sequence width first back) steps) (same_act width (first + step.cell) (back step.cell) step.act)
+    ∙ ap (λ (l : List Item). item_of width first back step ∷ l) (same_items width first back steps)
+
+-- a read under a fault of a tabled class answers the stored word
+reads_stored : (fault : Fault) (words : List ℕ) (a : ℕ) → IsWalkTabled (class_of fault) → answer_at (Some fault) words a ≡ get_or words a 0
+unfolding answer_under
+reads_stored (StuckAt vic value) words a h = refl
+reads_stored (CannotRise vic) words a h = refl
+reads_stored (CannotFall vic) words a h = refl
+reads_stored (Invert agg rise vic) words a h = refl
+reads_stored (Force agg rise vic value) words a h = absurd h
+reads_stored (State agg holds vic value) words a h = absurd h
+reads_stored (NoCell addr seen) words a h = absurd h
+reads_stored (Also addr other wired_and) words a h = absurd h
+reads_stored (Instead addr other) words a h = absurd h
+
+cells_below : (n : ℕ) → All (λ (c : ℕ). c < n) (cells n)
+cells_below zero = All-nil (λ (c : ℕ). c < zero)
+cells_below (suc n) = All-push (λ (c : ℕ). c < suc n) (cells n) n (λ k d h. omega (arith, cells_below n k d h)) (omega arith)
+
+-- the saved words fit
+saved_fit : (width : Width) (fault : Fault) (words : List ℕ) (slice : Slice) → memory.IsSound (record { width = width; fault = Some fault; words = words }) → IsWalkTabled (class_of fault)
+    → slice.first + slice.n ≤ length words → All (Fits width) (saved_words NonDestructive (Some fault) words slice)
+saved_fit width fault words slice sound tabled inside =
+    All-map (Fits width) (λ (cell : ℕ). answer (Some fault) words [] (slice.first + cell)) (cells slice.n)
+    (λ k d h.
+    let cell = get_or (cells slice.n) k d in
+    let below : cell < slice.n = cells_below slice.n k d h in
+    let at : slice.first + cell < length words = omega (arith, below, inside) in
+    subst (Fits width) (sym (reads_stored fault words (slice.first + cell) tabled) ∙ answer_settled width (Some fault) words sound.placed sound.settled (slice.first + cell) at) (sound.fits (slice.first + cell) at))
+
+-- each background word fits
+back_fits : (alg : Algorithm) (policy : Policy) (width : Width) (fault : Fault) (words : List ℕ) (background fill : ℕ) (slice : Slice)
+    → IsTabled alg (class_of fault) → (is_transparent alg ≡ true → policy ≡ NonDestructive) → Fits width background
+    → memory.IsSound (record { width = width; fault = Some fault; words = words }) → slice.first + slice.n ≤ length words
+    → (cell : ℕ) → cell < slice.n → Fits width (back_of (record { alg = alg; policy = policy; background = background; fill = fill }) (saved_words policy (Some fault) words slice) cell)
+back_fits Checkerboard policy width fault words background fill slice tabled kept fits sound inside cell h = fits
+back_fits (March march) policy width fault words background fill slice tabled kept fits sound inside cell h = fits
+back_fits WalkPath policy width fault words background fill slice tabled kept fits sound inside cell h = fits
+back_fits Galpat policy width fault words background fill slice tabled kept fits sound inside cell h = fits
+back_fits TransparentGalpat policy width fault words background fill slice tabled kept fits sound inside cell h =
+    let saves = kept refl in
+    subst (λ (p : Policy). Fits width (slice_index (saved_words p (Some fault) words slice) cell)) (sym saves)
+    (saved_fit width fault words slice sound tabled inside cell 0 (omega (arith, h, length-saved NonDestructive (Some fault) words slice refl)))
+
+pub detection : Detection
+detection b job slice fault sound present good at tabled inside =
+    let width = b.shape.width in
+    let saved = saved_words job.policy b.fault b.words slice in
+    let whole = subst (λ (f : Option Fault). memory.IsSound (record { width = width; fault = f; words = b.words })) present sound.memory in
+    let within : slice.first + slice.n ≤ length b.words = omega (arith, at.inside, sound.sized) in
+    let fits : (cell : ℕ) → cell < slice.n → Fits width (back_of job saved cell) =
+    λ cell h. subst (λ (f : Option Fault). Fits width (back_of job (saved_words job.policy f b.words slice) cell)) (sym present)
+    (back_fits job.alg job.policy width fault b.words job.background job.fill slice tabled good.kept good.background whole within cell h) in
+    caught_fails b job slice (λ earlier.
+    ap (λ (f : Option Fault). passes f b.words earlier (testing width job slice saved (steps_of job.alg slice.n))) present
+    ∙ ap (passes (Some fault) b.words earlier) (same_items width slice.first (back_of job saved) (steps_of job.alg slice.n))
+    ∙ coverage job.alg width fault (length b.words) slice.first slice.n (back_of job saved) good.accepted tabled whole.placed inside fits b.words earlier)
