@@ -1,5 +1,5 @@
 -- From coverage to sequences.
-use Rattle.std.proofs.Common.{ℕ, zero, suc, ◌+◌, ◌<◌, ◌≤◌, ◌≡◌, true, List, [], ◌∷◌, length, map, get_or, All, Option, Some, refl, sym, ap, ◌∙◌, subst, arith}
+use Rattle.std.proofs.Common.{ℕ, zero, suc, ◌+◌, ◌<◌, ◌≤◌, ◌≡◌, true, List, [], length, get_or, All, Option, Some, refl, sym, ap, ◌∙◌, subst, arith}
 use Rattle.std.specs.Prelude.{slice_index}
 use Rattle.std.proofs.lemmas.List.Elements.{All-map, All-nil, All-push}
 use Rattle.mt_word.specs.declared.Width.{Width}
@@ -7,39 +7,22 @@ use Rattle.mt_word.specs.Word.{Fits}
 use Rattle.mt_fault.specs.declared.fault.Fault.{Fault}
 use Rattle.mt_fault.specs.declared.fault.Fault.TheVariants.{StuckAt, CannotRise, CannotFall, Invert, Force, State, NoCell, Also, Instead}
 use Rattle.mt_fault.specs.Faulty.{answer, answer_under}
-use Rattle.mt_fault.specs.Items.{Item, passes}
+use Rattle.mt_fault.specs.Items.{passes}
 use Rattle.mt_fault.specs.Memory as memory
 use Rattle.mt_fault.proofs.Steps.{answer_at, answer_settled}
 use Rattle.mt_plan.specs.declared.algorithm.Algorithm.{Algorithm}
 use Rattle.mt_plan.specs.declared.algorithm.Algorithm.TheVariants.{Checkerboard, March, WalkPath, Galpat, TransparentGalpat}
-use Rattle.mt_plan.specs.declared.algorithm.Act.{Act}
-use Rattle.mt_plan.specs.declared.algorithm.Act.TheVariants.{WritePlain, WriteFlipped, ReadPlain, ReadFlipped}
 use Rattle.mt_plan.specs.declared.algorithm.Policy.{Policy}
 use Rattle.mt_plan.specs.declared.algorithm.Policy.TheVariants.{NonDestructive}
-use Rattle.mt_plan.specs.declared.algorithm.Step.{Step}
 use Rattle.mt_plan.specs.Lists.{cells}
 use Rattle.mt_plan.specs.Plan.{steps_of}
 use Rattle.mt_seq.specs.declared.sequence.Slice.{Slice}
 use Rattle.mt_seq.specs.Sequence.{saved_words, testing, back_of, is_transparent}
-use Rattle.mt_seq.specs.Sequence.{act_on as act_in_sequence, item_of as item_in_sequence}
 use Rattle.mt_seq.proofs.Lengths.{length-saved}
 use Rattle.mt_seq.proofs.Sound.{caught_fails}
-use Rattle.mt_cover.specs.Coverage.{act_on, item_of, class_of, IsTabled, IsWalkTabled}
+use Rattle.mt_cover.specs.Coverage.{class_of, IsTabled, IsWalkTabled}
 use Rattle.mt_cover.specs.Detection.{Detection}
 use Rattle.mt_cover.proofs.Table.{coverage}
-
--- the accesses of a sequence are those of coverage
-same_act : (width : Width) (addr back : ℕ) (act : Act) → act_in_sequence width addr back act ≡ act_on width addr back act
-same_act width addr back WritePlain = refl
-same_act width addr back WriteFlipped = refl
-same_act width addr back ReadPlain = refl
-same_act width addr back ReadFlipped = refl
-
-same_items : (width : Width) (first : ℕ) (back : ℕ → ℕ) (steps : List Step) → map (item_in_sequence width first back) steps ≡ map (item_of width first back) steps
-same_items width first back [] = refl
-same_items width first back (step ∷ steps) =
-    ap (λ (i : Item). i ∷ map (item_in_sequence width first back) steps) (same_act width (first + step.cell) (back step.cell) step.act)
-    ∙ ap (λ (l : List Item). item_of width first back step ∷ l) (same_items width first back steps)
 
 -- a read under a fault of a tabled class answers the stored word
 reads_stored : (fault : Fault) (words : List ℕ) (a : ℕ) → IsWalkTabled (class_of fault) → answer_at (Some fault) words a ≡ get_or words a 0
@@ -94,5 +77,4 @@ detection b job slice fault sound present good at tabled inside =
     (back_fits job.alg job.policy width fault b.words job.background job.fill slice tabled good.kept good.background whole within cell h) in
     caught_fails b job slice (λ earlier.
     ap (λ (f : Option Fault). passes f b.words earlier (testing width job slice saved (steps_of job.alg slice.n))) present
-    ∙ ap (passes (Some fault) b.words earlier) (same_items width slice.first (back_of job saved) (steps_of job.alg slice.n))
     ∙ coverage job.alg width fault (length b.words) slice.first slice.n (back_of job saved) good.accepted tabled whole.placed inside fits b.words earlier)

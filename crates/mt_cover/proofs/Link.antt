@@ -19,7 +19,7 @@ use Rattle.mt_plan.specs.declared.algorithm.Act.{Act}
 use Rattle.mt_plan.specs.declared.algorithm.Act.TheVariants.{WritePlain, WriteFlipped, ReadPlain, ReadFlipped}
 use Rattle.mt_plan.specs.declared.algorithm.Step.{Step}
 use Rattle.mt_plan.specs.Lists.{step}
-use Rattle.mt_cover.specs.Coverage.{item_of}
+use Rattle.mt_seq.specs.Sequence.{item_of}
 use Rattle.mt_cover.proofs.Model.{Rule, own, other, shows, caught, project, IsModel, AlwaysCaught}
 
 not_one : (t : ℕ) → t < 2 → ((1 - t) == 1) ≡ not (t == 1)

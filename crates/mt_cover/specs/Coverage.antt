@@ -1,16 +1,15 @@
 -- Which faults an algorithm catches. The table is this project's theorem.
-use Rattle.std.specs.Prelude.{◌≡◌, ◌≢◌, ◌⊎◌, ◌<◌, ◌+◌, ℕ, false, List, map, Some}
+use Rattle.std.specs.Prelude.{◌≡◌, ◌≢◌, ◌⊎◌, ◌<◌, ℕ, false, List, map, Some}
 use Rattle.mt_word.specs.declared.Width.{Width}
-use Rattle.mt_word.specs.Word.{Fits, complement_of}
+use Rattle.mt_word.specs.Word.{Fits}
 use Rattle.mt_fault.specs.declared.fault.Fault.{Fault}
 use Rattle.mt_fault.specs.declared.fault.Fault.TheVariants as faults
 use Rattle.mt_fault.specs.History.{History}
 use Rattle.mt_fault.specs.Placement.{IsWellPlaced, IsInside}
-use Rattle.mt_fault.specs.Items.{Item, Check, Store, passes}
+use Rattle.mt_fault.specs.Items.{passes}
 use Rattle.mt_march.specs.Known.{march_c_minus}
-use Rattle.mt_plan.specs.declared.algorithm.Act.{Act}
-use Rattle.mt_plan.specs.declared.algorithm.Act.TheVariants.{WritePlain, WriteFlipped, ReadPlain, ReadFlipped}
 use Rattle.mt_plan.specs.declared.algorithm.Step.{Step}
+use Rattle.mt_seq.specs.Sequence.{item_of}
 use Rattle.mt_plan.specs.declared.algorithm.Algorithm.{Algorithm}
 use Rattle.mt_plan.specs.declared.algorithm.Algorithm.TheVariants.{Checkerboard, March as Marches, WalkPath, Galpat, TransparentGalpat}
 use Rattle.mt_plan.specs.Plan.{steps_of, IsAccepted}
@@ -45,17 +44,6 @@ IsTabled (Marches march) class = (class ≡ StuckAt) ⊎ ((march.elements.items 
 IsTabled WalkPath class = IsWalkTabled class
 IsTabled Galpat class = IsWalkTabled class
 IsTabled TransparentGalpat class = IsWalkTabled class
-
--- a step as a test access of the word at an address, where `back` is the cell's background word
-abbrev pub act_on : Width → ℕ → ℕ → Act → Item
-act_on width addr back WritePlain = Store addr back
-act_on width addr back WriteFlipped = Store addr (complement_of width back)
-act_on width addr back ReadPlain = Check addr back
-act_on width addr back ReadFlipped = Check addr (complement_of width back)
-
--- the same on a slice that begins at `first`, where `back` gives each cell its background word
-abbrev pub item_of : Width → ℕ → (ℕ → ℕ) → Step → Item
-item_of width first back step = act_on width (first + step.cell) (back step.cell) step.act
 
 -- some checked read of the steps answers another word, whatever the first words and the accesses before were
 abbrev pub Catches : Width → (first : ℕ) → (back : ℕ → ℕ) → List Step → Fault → Type 0
