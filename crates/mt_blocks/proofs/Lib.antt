@@ -1,3 +1,4 @@
 pub mod Passes
 pub mod Cuts
 pub mod Words
+pub mod Tests

@@ -1,5 +1,5 @@
 -- The slices of blocks, and passes over blocks.
-use Rattle.std.specs.Prelude.{ℕ, ◌+◌, ◌-◌, ◌*◌, ◌/◌, ◌<◌, ◌≤◌, ◌≡◌, Bool, min, List, [], ◌∷◌, ◌++◌, map, length, drop, slice_index_or, Option, Some, None, if◌then◌else◌, nat_le, nat_lt}
+use Rattle.std.specs.Prelude.{ℕ, ◌+◌, ◌-◌, ◌*◌, ◌/◌, ◌<◌, ◌≤◌, ◌≡◌, Bool, not, ◌&&◌, min, List, [], ◌∷◌, ◌++◌, map, length, drop, slice_index_or, Option, Some, None, if◌then◌else◌, nat_le, nat_lt}
 use Rattle.std.specs.List.{range_with_len}
 use Rattle.mt_seq.specs.declared.sequence.Slice.{Slice}
 use Rattle.mt_blocks.specs.declared.span.Span.{Span}
@@ -75,6 +75,23 @@ start = record { block = 0; offset = 0 }
 abbrev pub start_of : List Span → Option Position
 start_of [] = None
 start_of (s ∷ more) = Some start
+
+-- a position, or the pass's start
+abbrev pub or_start : Option Position → Position
+or_start None = start
+or_start (Some p) = p
+
+-- the slices of a test from a position on: to the end of the pass where the test is whole, else of the block
+abbrev pub test_from : Bool → ℕ → List Span → Position → List Piece
+test_from whole K spans p = if whole then from_place K spans p else block_from K spans p
+
+-- the position after one of them, and the slices from there on
+abbrev pub next_in : Bool → ℕ → List Span → Position → Option Position
+next_in whole K spans p = if not whole && ends_block K (span_at spans p.block) p.offset then None else next_of K spans p
+
+abbrev pub test_rest : Bool → ℕ → List Span → Option Position → List Piece
+test_rest whole K spans None = []
+test_rest whole K spans (Some p) = test_from whole K spans p
 
 -- spans that are cut into slices of K words
 pub record AreSpans (K : ℕ) (spans : List Span) : Type 0 where

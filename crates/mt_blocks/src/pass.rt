@@ -1,7 +1,7 @@
 //! Slices, passes, groups and ticks.
 
 ghost use Rattle.std.specs.Prelude.{◌≡◌, ◌≤◌, ◌+◌, length, map};
-ghost use Rattle.mt_blocks.specs.Slices.{AreSpans, IsValid, span_at, slice_of, ends_block, next_of, start_of, from_place, pass};
+ghost use Rattle.mt_blocks.specs.Slices.{AreSpans, IsValid, span_at, slice_of, ends_block, next_of, next_in, or_start, start_of, from_place, pass};
 ghost use Rattle.mt_blocks.specs.Groups.{group_len, ticks};
 
 use crate::span::{HasSpan, span_in};
@@ -85,6 +85,37 @@ pub fn group_len<T: HasSpan>(blocks: &[T], atomic: u32, cells: u32, at: Position
         next = following(blocks, atomic, place);
     }
     len
+}
+
+/// The position of the next slice of a test, which goes to the end of the pass where it is `whole`, and else to the end
+/// of the block; none after its last.
+pub fn next_of_test<T: HasSpan>(
+    blocks: &[T],
+    atomic: u32,
+    at: Position,
+    whole: bool,
+) -> Option<Position>
+    requires blocks { AreSpans atomic (map T.span_of blocks.now) }
+    requires valid { IsValid atomic (map T.span_of blocks.now) at }
+    ensures { result ≡ next_in whole atomic (map T.span_of blocks.now) at }
+{
+    if !whole && is_last(blocks, atomic, at) {
+        return None;
+    }
+    following(blocks, atomic, at)
+}
+
+/// A position, or where there is none the start of a pass.
+pub fn or_start(next: Option<Position>) -> Position
+    ensures { result ≡ or_start next }
+{
+    match next {
+        None => Position {
+            block: 0,
+            offset: 0,
+        },
+        Some(at) => at,
+    }
 }
 
 // The position of a pass's first slice; none where there is no block.

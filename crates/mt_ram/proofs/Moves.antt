@@ -7,12 +7,14 @@ use Rattle.mt_window.specs.declared.reply.TestResult.TheVariants.{NotTested}
 use Rattle.mt_port.specs.declared.request.HandlerCall.{HandlerCall}
 use Rattle.mt_port.specs.declared.request.HandlerCall.TheVariants as calls
 use Rattle.mt_window.specs.Serving.{Scene, serve_due}
+use Rattle.mt_window.specs.Rows.{Refuses, Answers, next_in}
 use Rattle.mt_window.proofs.Serving.{IsKept, Stays, due_served-stays, due_served-moves, left_served-moves}
+use Rattle.mt_blocks.specs.Slices.{Piece}
 use Rattle.mt_ram.specs.declared.state.State.{State}
 use Rattle.mt_ram.specs.declared.state.State.TheVariants.{Uninit, Stopped, Running, Suspended, Full, Partial}
 use Rattle.mt_ram.specs.State.{RamTst, IsRunning, IsInside}
 use Rattle.mt_ram.specs.Laws.{Moves, BoundariesMove, RequestsLeftMove}
-use Rattle.mt_ram.specs.Table.{Allow, Stop, Suspend, Resume, GetTestResult, GetTestResultPerBlock, Refuses, Answers, cell, next_in, telling, ram_table}
+use Rattle.mt_ram.specs.Table.{Allow, Stop, Suspend, Resume, GetTestResult, GetTestResultPerBlock, cell, telling, ram_table}
 
 pub Moves-refl : (a : RamTst) → Moves a a
 Moves-refl a = record { still = refl; unmarked = λ h. h; running = λ h r. refl; inside = λ r. refl }
@@ -68,7 +70,7 @@ result-moves a (Partial back) = Moves-refl a
 telling-still : (a : RamTst) (block : ℕ) → next_in (telling a block) a ≡ a
 telling-still a block = of (nat_lt block (length a.results))
   where
-    of : (b : Bool) → next_in (cond b (Answers (Result (slice_index_or a.results block NotTested))) (Refuses Range)) a ≡ a
+    of : (b : Bool) → next_in {X = Piece} (cond b (Answers (Result (slice_index_or a.results block NotTested))) (Refuses Range)) a ≡ a
     of true = refl
     of false = refl
 

@@ -1,6 +1,5 @@
 -- The sets of an accepted configuration.
-use Rattle.std.proofs.Common.{ℕ, ◌*◌, ◌<◌, ◌≤◌, ◌≡◌, List, length, refl, sym, ap, ◌∙◌, subst, arith, Option, Some, None}
-use Rattle.std.proofs.Math.Nat.{div-eq_of_lt}
+use Rattle.std.proofs.Common.{ℕ, ◌*◌, ◌<◌, ◌≤◌, ◌≡◌, List, length, sym, subst, arith}
 use Rattle.std.proofs.lemmas.List.{length-map, get_or-map}
 use Rattle.mt_port.specs.declared.board.Shape.{Shape}
 use Rattle.mt_port.specs.Board.{IsWithinLimits}
@@ -9,15 +8,14 @@ use Rattle.mt_blocks.specs.declared.span.Span.{Span}
 use Rattle.mt_blocks.specs.declared.pass.Position.{Position}
 use Rattle.mt_blocks.specs.declared.config.Block.{Block}
 use Rattle.mt_blocks.specs.declared.config.ParamSet.{ParamSet}
-use Rattle.mt_blocks.specs.Slices.{AreSpans, IsValid, span_at, no_span, next_of}
+use Rattle.mt_blocks.specs.Slices.{AreSpans, IsValid, span_at, no_span}
 use Rattle.mt_blocks.specs.Accepted.{IsAcceptedBlock, IsAcceptedSet, block_at, no_block, no_set, spans_of}
-use Rattle.mt_blocks.proofs.Passes.{next_valid}
 use Rattle.mt_seq.specs.declared.sequence.Job.{Job}
 use Rattle.mt_seq.specs.Sequence.{sequence_hold}
 use Rattle.mt_seq.proofs.Lengths.{holds_are_short}
 use Rattle.mt_plan.specs.Plan.{IsAccepted}
 use Rattle.mt_ram.specs.State.{RamTst, IsRam, set_of}
-use Rattle.mt_ram.specs.Event.{job_in, or_start}
+use Rattle.mt_ram.specs.Event.{job_in}
 
 pub spans_at : (blocks : List Block) (i : ℕ) → i < length blocks → span_at (spans_of blocks) i ≡ (block_at blocks i).span
 spans_at blocks i inside = get_or-map (λ (b : Block). b.span) blocks i no_block no_span inside
@@ -57,18 +55,3 @@ accepted_set r ok = ok.accepted.sets r.selected no_set ok.selected
 
 pub hold_small : (job : Job) (n : ℕ) → IsAccepted job.alg → n ≤ 64 → sequence_hold job n ≤ 262 * 64
 hold_small job n accepted small = omega (arith, holds_are_short job n accepted small, small)
-
-pub start_valid : (K : ℕ) (spans : List Span) (i : ℕ) → AreSpans K spans → i < length spans → IsValid K spans (record { block = i; offset = 0 })
-start_valid K spans i ok inside = record {
-  block = inside;
-  offset = omega arith;
-  multiple = (let z : 0 ≡ 0 * K = omega arith in z) ∙ ap (λ (n : ℕ). n * K) (sym (div-eq_of_lt {n = 0} {m = K} (omega (arith, ok.some))));
-}
-
--- the next position of the pass is that of a slice
-pub or_start-valid : (K : ℕ) (spans : List Span) (p : Position) → AreSpans K spans → IsValid K spans p → IsValid K spans (or_start (next_of K spans p))
-or_start-valid K spans p ok valid = of (next_of K spans p) refl
-  where
-    of : (o : Option Position) → next_of K spans p ≡ o → IsValid K spans (or_start o)
-    of None e = start_valid K spans 0 ok (omega (arith, valid.block))
-    of (Some q) e = next_valid K spans p q ok valid e

@@ -1,27 +1,25 @@
 -- A tick, slice by slice.
-use Rattle.std.proofs.Common.{ℕ, suc, zero, ◌+◌, ◌-◌, ◌*◌, ◌<◌, ◌≤◌, ◌≡◌, false, leb, List, [], ◌∷◌, drop, take, length, Option, Some, None, refl, sym, ap, ◌∙◌, subst, arith}
+use Rattle.std.proofs.Common.{ℕ, ◌+◌, ◌*◌, ◌<◌, ◌≤◌, ◌≡◌, false, List, ◌∷◌, drop, take, length, Option, refl, sym, ap, ◌∙◌, subst, arith}
 use Rattle.mt_window.specs.Serving.{Scene, scene}
 use Rattle.mt_port.specs.declared.board.Touch.{Touch}
 use Rattle.mt_port.specs.Board.{Logs}
 use Rattle.mt_window.specs.Slices.{sequenced, tested, slices, touches}
 use Rattle.mt_window.specs.Events.{ran, returned, touches_from}
-use Rattle.mt_window.proofs.Serving.{cond_case}
 use Rattle.mt_plan.specs.Plan.{IsAccepted}
 use Rattle.mt_port.specs.Board.{IsWithinLimits}
-use Rattle.mt_blocks.specs.declared.span.Span.{Span}
 use Rattle.mt_blocks.specs.declared.pass.Position.{Position}
 use Rattle.mt_blocks.specs.declared.config.ParamSet.{ParamSet}
-use Rattle.mt_blocks.specs.Slices.{Piece, from_place, piece_at, next_of, AreSpans, IsValid}
-use Rattle.mt_blocks.specs.Groups.{group_len}
+use Rattle.mt_blocks.specs.Slices.{Piece, from_place, piece_at, next_of, or_start, IsValid}
 use Rattle.mt_blocks.specs.Accepted.{IsAcceptedSet, spans_of, set_at}
-use Rattle.mt_blocks.proofs.Passes.{from_next, from_step}
+use Rattle.mt_window.specs.Rows.{work_in, inside_of, back_from}
+use Rattle.mt_blocks.proofs.Tests.{on_next, or_start-valid}
 use Rattle.mt_ram.specs.declared.state.State.{State}
 use Rattle.mt_ram.specs.declared.state.State.TheVariants.{Uninit, Stopped, Running, Suspended, Full, Partial}
 use Rattle.mt_ram.specs.State.{RamTst, Setting, IsRam, set_of, spans_in, place_of}
 use Rattle.mt_ram.specs.Table.{MainFunction, cell, row}
-use Rattle.mt_ram.specs.Event.{job_of, or_start, next_place, passed, of_pass, ticking, work_in, inside_of, back_from}
+use Rattle.mt_ram.specs.Event.{job_of, next_place, passed, of_pass, ticking}
 use Rattle.mt_ram.proofs.Moves.{at_boundary}
-use Rattle.mt_ram.proofs.Sets.{accepted_set, accepted_spans, hold_small, or_start-valid}
+use Rattle.mt_ram.proofs.Sets.{accepted_set, accepted_spans, hold_small}
 
 -- inside a tick the module is as it was, and no way back is needed
 pub tick_inside : (r o : RamTst) (s : State) → inside_of (cell o MainFunction s) r ≡ r
@@ -63,26 +61,6 @@ pub record OnPlace (set : ParamSet) (state : State) (L : List Piece) : Type 0 wh
   pub valid : IsValid set.atomic (spans_of set.blocks) place
   pub front : take (length L) (from_place set.atomic (spans_of set.blocks) place) ≡ L
 
-take_nothing : (more X : List Piece) → take (length more) [] ≡ more → take (length more) X ≡ more
-take_nothing [] X e = refl
-take_nothing (p ∷ more) X e = cc
-
-take_next : (K : ℕ) (spans : List Span) (p : Position) (more : List Piece) (o : Option Position) → next_of K spans p ≡ o
-    → take (length more) (from_next K spans o) ≡ more → take (length more) (from_place K spans (or_start o)) ≡ more
-take_next K spans p more None e f = take_nothing more _ f
-take_next K spans p more (Some q) e f = f
-
--- the first of the next slices is the one at the position, and the others follow it
-on_next : (K : ℕ) (spans : List Span) (p : Position) (L : List Piece) → AreSpans K spans → IsValid K spans p → take (length L) (from_place K spans p) ≡ L → 0 < length L
-    → (L ≡ piece_at K spans p ∷ drop 1 L) × (take (length (drop 1 L)) (from_place K spans (or_start (next_of K spans p))) ≡ drop 1 L)
-on_next K spans p [] ok valid e h = absurd (omega (arith, h))
-on_next K spans p (x ∷ more) ok valid e h =
-    let split : piece_at K spans p ∷ take (length more) (from_next K spans (next_of K spans p)) ≡ x ∷ more =
-    sym (ap (take (suc (length more))) (from_step K spans p ok valid)) ∙ e in
-    let one : x ≡ piece_at K spans p = cc in
-    let rest : take (length more) (from_next K spans (next_of K spans p)) ≡ more = cc in
-    (ap (λ (y : Piece). y ∷ more) one, take_next K spans p more (next_of K spans p) refl rest)
-
 -- one slice of a tick
 pub record Stepped (set : ParamSet) (s z : Scene RamTst) (L : List Piece) : Type 0 where
   pub split : L ≡ piece_at (set_of s.callee).atomic (spans_in s.callee) (place_of s.callee.state) ∷ drop 1 L
@@ -123,23 +101,6 @@ tick_step set s z L on at some e =
       shape = b.shape;
       count = omega (arith, b.count, hold_small (job_of s.callee P) P.slice.n accepted small);
     }
-
-pub drop_one : {X : Type 0} (k : ℕ) (xs : List X) → drop 1 (drop k xs) ≡ drop (suc k) xs
-drop_one zero xs = refl
-drop_one (suc k) [] = refl
-drop_one (suc k) (x ∷ xs) = drop_one k xs
-
-pub drop_one_more : {X : Type 0} (k : ℕ) (xs : List X) → drop 1 (drop k xs) ≡ drop (k + 1) xs
-drop_one_more k xs = drop_one k xs ∙ ap (λ (n : ℕ). drop n xs) (let e : suc k ≡ k + 1 = omega arith in e)
-
-pub take_taken : (n : ℕ) (xs : List Piece) → take (length (take n xs)) xs ≡ take n xs
-take_taken zero xs = refl
-take_taken (suc n) [] = refl
-take_taken (suc n) (x ∷ xs) = ap (λ (l : List Piece). x ∷ l) (take_taken n xs)
-
-pub group_len-le : (words : ℕ) (L : List Piece) → group_len words L ≤ length L
-group_len-le words [] = omega arith
-group_len-le words (p ∷ more) = cond_case (λ n. n ≤ suc (length more)) (leb p.slice.n words) (suc (group_len (words - p.slice.n) more)) 0 (omega (arith, group_len-le (words - p.slice.n) more)) (omega arith)
 
 -- the slices of a tick, from just after boundary 0
 pub ticked : (o z : Scene RamTst) → z ≡ slices of_pass (work_in (row o.callee MainFunction)) false o → z ≡ returned ticking o (ran ticking o)

@@ -1,19 +1,20 @@
 -- One running event of RamTst.
-use Rattle.std.specs.Prelude.{ℕ, Bool, false, not, ◌&&◌, if◌then◌else◌, List, [], slice_index_or, slice_set, Option, Some, None}
+use Rattle.std.specs.Prelude.{ℕ, Bool, false, slice_index_or, slice_set}
 use Rattle.mt_seq.specs.declared.sequence.Job.{Job}
 use Rattle.mt_seq.specs.declared.sequence.Verdict.{Verdict}
 use Rattle.mt_seq.specs.Sequence.{sequence_words, sequence_verdict, sequence_hold, sequence_touches}
 use Rattle.mt_window.specs.declared.reply.TestResult.TheVariants.{NotTested}
 use Rattle.mt_window.specs.Slices.{Tests}
 use Rattle.mt_window.specs.Events.{Running as Events}
+use Rattle.mt_window.specs.Rows.{by_row}
 use Rattle.mt_blocks.specs.declared.config.ParamSet.{ParamSet}
 use Rattle.mt_blocks.specs.declared.pass.Position.{Position}
-use Rattle.mt_blocks.specs.Slices.{Piece, next_of, start, span_at, ends_block, from_place, block_from}
-use Rattle.mt_blocks.specs.Accepted.{block_at, spans_of}
+use Rattle.mt_blocks.specs.Slices.{Piece, next_of, or_start}
+use Rattle.mt_blocks.specs.Accepted.{block_at}
 use Rattle.mt_ram.specs.declared.state.State.TheVariants.{Running}
 use Rattle.mt_ram.specs.State.{RamTst, set_of, spans_in}
 use Rattle.mt_ram.specs.Results.{result_after, failed_after}
-use Rattle.mt_ram.specs.Table.{Service, RunFullTest, RunPartialTest, MainFunction, Cell, Refuses, Goes, Answers, Rests, Ticks, Runs, row, reply_in, ram_table}
+use Rattle.mt_ram.specs.Table.{Service, RunFullTest, RunPartialTest, MainFunction, row, ram_table}
 
 -- how a block of a set is tested
 abbrev pub job_in : ParamSet → ℕ → Job
@@ -36,10 +37,6 @@ with_result r p v failed =
     }
 
 -- the next position of the pass; after its last slice its start
-abbrev pub or_start : Option Position → Position
-or_start None = start
-or_start (Some p) = p
-
 abbrev pub next_place : RamTst → Position → Position
 next_place r p = or_start (next_of (set_of r).atomic (spans_in r) p)
 
@@ -74,57 +71,9 @@ of_test = record {
   failed = λ p v failed. failed_after v failed p.last;
 }
 
--- the slices of a full or partial test from a position on: those of the pass, or of the block
-abbrev pub test_from : Bool → ParamSet → Position → List Piece
-test_from whole set p =
-    if whole then from_place set.atomic (spans_of set.blocks) p else block_from set.atomic (spans_of set.blocks) p
-
--- the position after one of them, and the slices from there on
-abbrev pub next_in : Bool → ParamSet → Position → Option Position
-next_in whole set p =
-    if not whole && ends_block set.atomic (span_at (spans_of set.blocks) p.block) p.offset then None
-    else next_of set.atomic (spans_of set.blocks) p
-
-abbrev pub test_rest : Bool → ParamSet → Option Position → List Piece
-test_rest whole set None = []
-test_rest whole set (Some p) = test_from whole set p
-
--- the slices that a cell has tested
-abbrev pub work_in : Cell → List Piece
-work_in (Refuses why) = []
-work_in (Goes next) = []
-work_in (Answers what) = []
-work_in Rests = []
-work_in (Ticks slices) = slices
-work_in (Runs slices inside back) = slices
-
--- the module inside a test, and back after it
-abbrev pub inside_of : Cell → RamTst → RamTst
-inside_of (Refuses why) r = r
-inside_of (Goes next) r = r
-inside_of (Answers what) r = r
-inside_of Rests r = r
-inside_of (Ticks slices) r = r
-inside_of (Runs slices inside back) r = record r { state = inside }
-
-abbrev pub back_from : Cell → RamTst → RamTst
-back_from (Refuses why) r = r
-back_from (Goes next) r = r
-back_from (Answers what) r = r
-back_from Rests r = r
-back_from (Ticks slices) r = r
-back_from (Runs slices inside back) r = record r { state = back }
-
--- a running call: its cell in the table, by the state just after boundary 0, says what is done
+-- a running call
 abbrev pub running : Tests RamTst Piece Verdict → Service → Events RamTst Piece Verdict
-running tests service = record {
-  tests = tests;
-  cleared = λ r. record r { mark = false };
-  work = λ r. work_in (row r service);
-  inside = λ r. inside_of (row r service) r;
-  back = λ o r. back_from (row o service) r;
-  reply = λ o made. reply_in (row o service) made;
-}
+running tests service = by_row (λ r. record r { mark = false }) (λ r. row r service) tests
 
 abbrev pub ticking : Events RamTst Piece Verdict
 ticking = running of_pass MainFunction

@@ -6,9 +6,7 @@ use Rattle.mt_plan.specs.declared.algorithm.Algorithm.{Algorithm}
 use Rattle.mt_plan.specs.declared.algorithm.Algorithm.TheVariants as algorithms
 use Rattle.mt_window.specs.declared.reply.Reply.{Reply}
 use Rattle.mt_window.specs.declared.reply.Reply.TheVariants as reply
-use Rattle.mt_window.specs.declared.reply.Refusal.{Refusal}
 use Rattle.mt_window.specs.declared.reply.Refusal.TheVariants as refusal
-use Rattle.mt_window.specs.declared.reply.Value.{Value}
 use Rattle.mt_window.specs.declared.reply.Value.TheVariants as value
 use Rattle.mt_window.specs.declared.reply.ShownState.{ShownState}
 use Rattle.mt_window.specs.declared.reply.ShownState.TheVariants as shown
@@ -16,6 +14,7 @@ use Rattle.mt_window.specs.declared.reply.AlgorithmName.{AlgorithmName}
 use Rattle.mt_window.specs.declared.reply.AlgorithmName.TheVariants as names
 use Rattle.mt_window.specs.declared.reply.TestResult.TheVariants.{NotTested}
 use Rattle.mt_window.specs.Serving.{Table}
+use Rattle.mt_window.specs.Rows.{Cell, Refuses, Goes, Answers, Rests, Runs, staying, reply_in, next_in}
 use Rattle.mt_blocks.specs.declared.pass.Position.{Position}
 use Rattle.mt_blocks.specs.Slices.{Piece, pass, pieces, from_place, span_at, start}
 use Rattle.mt_blocks.specs.Groups.{group}
@@ -37,19 +36,8 @@ pub data Service : Type 0 where
   GetTestResult GetAlgParams GetTestAlgorithm GetNumberOfTestedCells GetExecutionStatus GetVersionInfo : Service
 
 -- a cell of the table
-pub data Cell : Type 0 where
-  -- the call is refused, and nothing changes
-  Refuses : (why : Refusal) → Cell
-  -- it is done, and the module goes on so
-  Goes : (next : RamTst) → Cell
-  -- it is answered, and nothing changes
-  Answers : (what : Value) → Cell
-  -- a tick that tests nothing
-  Rests : Cell
-  -- a tick that tests these slices
-  Ticks : (slices : List Piece) → Cell
-  -- a test of these slices: the state inside, and the state to go back to
-  Runs : (slices : List Piece) (inside back : State) → Cell
+abbrev pub RamCell : Type 0
+RamCell = Cell RamTst Piece
 
 -- the module with that set: its number of cells, and no result
 abbrev pub selected : RamTst → ℕ → RamTst
@@ -81,20 +69,24 @@ abbrev pub resumed : RamTst → Position → RamTst
 resumed r p = record r { state = Running p }
 
 -- Refused as out of range, or what the service does.
-abbrev pub selecting : RamTst → ℕ → Cell
+abbrev pub selecting : RamTst → ℕ → RamCell
 selecting r set = if nat_lt set (length r.setting.config.sets) then Goes (selected r set) else Refuses refusal.Range
 
-abbrev pub changing : RamTst → ℕ → Cell
+abbrev pub changing : RamTst → ℕ → RamCell
 changing r cells =
     if nat_le (set_of r).atomic cells && nat_le cells 65536 then Goes (record r { cells = cells }) else Refuses refusal.Range
 
-abbrev pub testing : RamTst → ℕ → (inside back : State) → Cell
+-- the module in a state
+abbrev pub in_state : State → RamTst → RamTst
+in_state state r = record r { state = state }
+
+abbrev pub testing : RamTst → ℕ → (inside back : State) → RamCell
 testing r block inside back =
     if nat_lt block (length (set_of r).blocks)
-    then Runs (pieces (set_of r).atomic block (span_at (spans_in r) block)) inside back
+    then Runs (pieces (set_of r).atomic block (span_at (spans_in r) block)) (in_state inside) (in_state back)
     else Refuses refusal.Range
 
-abbrev pub telling : RamTst → ℕ → Cell
+abbrev pub telling : RamTst → ℕ → RamCell
 telling r block =
     if nat_lt block (length r.results) then Answers (value.Result (slice_index_or r.results block NotTested)) else Refuses refusal.Range
 
@@ -120,7 +112,7 @@ name_of algorithms.TransparentGalpat = names.TransparentGalpat
 
 -- The table, row by row. Inside a full or partial test only a handler calls, so that a row of another service has
 -- no cell there; what it has here is the cell of RUNNING.
-abbrev pub cell : RamTst → Service → State → Cell
+abbrev pub cell : RamTst → Service → State → RamCell
 cell r Init Uninit = Goes (initialised r)
 cell r Init _ = Refuses refusal.Status
 cell r DeInit Uninit = Refuses refusal.Uninit
@@ -145,14 +137,14 @@ cell r (ChangeNumberOfTestedCells cells) Uninit = Refuses refusal.Uninit
 cell r (ChangeNumberOfTestedCells cells) Stopped = changing r cells
 cell r (ChangeNumberOfTestedCells cells) _ = Refuses refusal.Status
 cell r RunFullTest Uninit = Refuses refusal.Uninit
-cell r RunFullTest Stopped = Runs (pass (set_of r).atomic (spans_in r)) Full Stopped
+cell r RunFullTest Stopped = Runs (pass (set_of r).atomic (spans_in r)) (in_state Full) (in_state Stopped)
 cell r RunFullTest _ = Refuses refusal.Status
 cell r (RunPartialTest block) Uninit = Refuses refusal.Uninit
 cell r (RunPartialTest block) Stopped = testing r block (Partial None) Stopped
 cell r (RunPartialTest block) (Suspended p) = testing r block (Partial (Some p)) (Suspended p)
 cell r (RunPartialTest block) _ = Refuses refusal.Status
 cell r MainFunction Uninit = Refuses refusal.Uninit
-cell r MainFunction (Running p) = Ticks (group_at r p)
+cell r MainFunction (Running p) = Runs (group_at r p) staying staying
 cell r MainFunction _ = Rests
 cell r (GetTestResultPerBlock block) Uninit = Refuses refusal.Uninit
 cell r (GetTestResultPerBlock block) _ = telling r block
@@ -167,26 +159,8 @@ cell r GetNumberOfTestedCells _ = Answers (value.Number r.cells)
 cell r GetExecutionStatus state = Answers (value.State (shown_state state))
 cell r GetVersionInfo _ = Answers value.Version
 
--- the reply that a cell gives, where so many test accesses were made
-abbrev pub reply_in : Cell → ℕ → Reply
-reply_in (Refuses why) made = reply.Refused why
-reply_in (Goes next) made = reply.Done
-reply_in (Answers what) made = reply.Value what
-reply_in Rests made = reply.Ran 0
-reply_in (Ticks slices) made = reply.Ran made
-reply_in (Runs slices inside back) made = reply.Ran made
-
--- the module after it, where no slice is tested
-abbrev pub next_in : Cell → RamTst → RamTst
-next_in (Refuses why) r = r
-next_in (Goes next) r = next
-next_in (Answers what) r = r
-next_in Rests r = r
-next_in (Ticks slices) r = r
-next_in (Runs slices inside back) r = r
-
 -- the cell of a call, its reply, and the module after it
-abbrev pub row : RamTst → Service → Cell
+abbrev pub row : RamTst → Service → RamCell
 row r service = cell r service r.state
 
 abbrev pub reply_to : RamTst → Service → Reply

@@ -6,13 +6,14 @@ ghost use Rattle.mt_port.specs.Board.{IsWithinLimits, Logs};
 ghost use Rattle.mt_window.specs.Serving.{scene, IsReady};
 ghost use Rattle.mt_window.specs.Slices.{tested, failed_after, slices, touches};
 ghost use Rattle.mt_window.specs.Events.{ran, returned, event, touches_from, event_touches};
-ghost use Rattle.mt_blocks.specs.Slices.{IsValid, piece_at, from_place};
+ghost use Rattle.mt_window.specs.Rows.{reply_in};
+ghost use Rattle.mt_blocks.specs.Slices.{IsValid, piece_at, from_place, test_from};
 ghost use Rattle.mt_blocks.specs.Laws.{word_count};
 ghost use Rattle.mt_blocks.specs.Groups.{group_len};
 ghost use Rattle.mt_blocks.specs.Accepted.{IsAcceptedSet};
 ghost use Rattle.mt_ram.specs.State.{set_of, spans_in, IsPlace, IsRunning, IsInside, place_of};
-ghost use Rattle.mt_ram.specs.Table.{MainFunction, RunFullTest, RunPartialTest, cell, row, reply_in, testing};
-ghost use Rattle.mt_ram.specs.Event.{of_pass, of_test, test_from, ticking, full_test, partial_test};
+ghost use Rattle.mt_ram.specs.Table.{MainFunction, RunFullTest, RunPartialTest, cell, row, testing};
+ghost use Rattle.mt_ram.specs.Event.{of_pass, of_test, ticking, full_test, partial_test};
 
 use crate::state::{Ram, State};
 use mt_blocks::{Position, group_len};
@@ -185,13 +186,13 @@ impl Ram {
         requires limits { IsWithinLimits self.old.setting.shape }
         requires inside { IsInside self.old.state }
         requires valid { IsValid (set_of self.old).atomic (spans_in self.old) from }
-        requires few { word_count (test_from whole (set_of self.old) from) ≤ 65536 * 64 }
+        requires few { word_count (test_from whole (set_of self.old).atomic (spans_in self.old) from) ≤ 65536 * 64 }
         ensures scene { scene (P.state port.new) self.new log.new
-            ≡ slices of_test (test_from whole (set_of self.old) from) false (scene (P.state port.old) self.old log.old) }
+            ≡ slices of_test (test_from whole (set_of self.old).atomic (spans_in self.old) from) false (scene (P.state port.old) self.old log.old) }
         ensures ready { IsReady Itself (P.state port.new) log.new }
         ensures set { set_of self.new ≡ set_of self.old }
         ensures tape { Logs (P.tape port.old) (P.tape port.new)
-            (touches of_test (test_from whole (set_of self.old) from) false (scene (P.state port.old) self.old log.old)) }
+            (touches of_test (test_from whole (set_of self.old).atomic (spans_in self.old) from) false (scene (P.state port.old) self.old log.old)) }
     {
         let mut failed = false;
         let mut next = Some(from);

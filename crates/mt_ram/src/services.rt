@@ -1,7 +1,8 @@
 //! The services of RamTst.
 
 ghost use Rattle.std.specs.Prelude.{◌≡◌};
-ghost use Rattle.mt_ram.specs.Table.{Init, DeInit, Allow, Stop, Suspend, Resume, SelectAlgParams, ChangeNumberOfTestedCells, GetTestResultPerBlock, GetTestResult, GetAlgParams, GetTestAlgorithm, GetNumberOfTestedCells, GetExecutionStatus, GetVersionInfo, reply_to, reply_in, telling, after, shown_state, name_of};
+ghost use Rattle.mt_window.specs.Rows.{reply_in};
+ghost use Rattle.mt_ram.specs.Table.{Init, DeInit, Allow, Stop, Suspend, Resume, SelectAlgParams, ChangeNumberOfTestedCells, GetTestResultPerBlock, GetTestResult, GetAlgParams, GetTestAlgorithm, GetNumberOfTestedCells, GetExecutionStatus, GetVersionInfo, reply_to, telling, after, shown_state, name_of};
 
 use crate::result::overall_of;
 use crate::state::{Ram, State};

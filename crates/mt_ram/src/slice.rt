@@ -4,14 +4,14 @@ ghost use Rattle.std.specs.Prelude.{◌≡◌, ◌<◌, ◌≤◌, ◌+◌, ◌*
 ghost use Rattle.mt_port.specs.Board.{IsWithinLimits, Logs};
 ghost use Rattle.mt_seq.specs.Sequence.{sequence_verdict, sequence_words, sequence_hold, sequence_touches};
 ghost use Rattle.mt_window.specs.Slices.{sequenced};
-ghost use Rattle.mt_blocks.specs.Slices.{IsValid, piece_at};
+ghost use Rattle.mt_blocks.specs.Slices.{IsValid, piece_at, next_in};
 ghost use Rattle.mt_blocks.specs.Accepted.{IsAcceptedSet, spans_of};
 ghost use Rattle.mt_ram.specs.State.{set_of, spans_in};
-ghost use Rattle.mt_ram.specs.Event.{job_in, or_start, next_place, of_test, with_result, passed, next_in};
+ghost use Rattle.mt_ram.specs.Event.{job_in, next_place, of_test, with_result, passed};
 
 use crate::result::{keep_failed, next_result};
 use crate::state::{Ram, State};
-use mt_blocks::{ParamSet, Position, following, is_last, slice_at};
+use mt_blocks::{ParamSet, Position, following, is_last, next_of_test, or_start, slice_at};
 use mt_port::Port;
 use mt_seq::{Job, Verdict, run_slice};
 
@@ -49,19 +49,6 @@ fn run_sequence<P: Port>(port: &mut P, set: &ParamSet, at: Position) -> Verdict
     run_slice(port, &job, slice)
 }
 
-// A position, or the pass's start.
-fn or_start(next: Option<Position>) -> Position
-    ensures { result ≡ or_start next }
-{
-    match next {
-        None => Position {
-            block: 0,
-            offset: 0,
-        },
-        Some(at) => at,
-    }
-}
-
 impl Ram {
     /// The sequence of one slice.
     pub(crate) fn test<P: Port>(&self, port: &mut P, at: Position) -> Verdict
@@ -74,15 +61,6 @@ impl Ram {
         ensures tape { Logs (P.tape port.old) (P.tape port.new) ((of_test).touches self.now (piece_at (set_of self.now).atomic (spans_in self.now) at) (P.state port.old)) }
     {
         run_sequence(port, self.set(), at)
-    }
-
-    // The next slice of the pass; none after its last.
-    fn next_of_pass(&self, at: Position) -> Option<Position>
-        requires { IsValid (set_of self.now).atomic (spans_in self.now) at }
-        ensures { result ≡ next_in true (set_of self.now) at }
-    {
-        let set = self.set();
-        following(set.blocks.as_slice(), set.atomic, at)
     }
 
     // Whether a slice is its block's last.
@@ -107,12 +85,10 @@ impl Ram {
     /// The next slice of a full test, or of a partial one; none after its last.
     pub(crate) fn next_of_test(&self, at: Position, whole: bool) -> Option<Position>
         requires { IsValid (set_of self.now).atomic (spans_in self.now) at }
-        ensures { result ≡ next_in whole (set_of self.now) at }
+        ensures { result ≡ next_in whole (set_of self.now).atomic (spans_in self.now) at }
     {
-        if !whole && self.ends_block(at) {
-            return None;
-        }
-        self.next_of_pass(at)
+        let set = self.set();
+        next_of_test(set.blocks.as_slice(), set.atomic, at, whole)
     }
 
     /// What the end of a slice of a full or partial test leaves.

@@ -1,11 +1,10 @@
 use Rattle.std.proofs.Common.{◌∙◌, List, sym, ap, subst}
 use Rattle.mt_blocks.specs.declared.config.ParamSet.{ParamSet}
 use Rattle.mt_blocks.specs.declared.config.Block.{Block}
-use Rattle.mt_blocks.specs.Slices.{AreSpans, IsValid, next_of}
+use Rattle.mt_blocks.specs.Slices.{AreSpans, IsValid, next_of, or_start}
 use Rattle.mt_blocks.specs.Accepted.{spans_of}
 use Rattle.mt_ram.specs.State.{set_of, spans_in}
-use Rattle.mt_ram.specs.Event.{or_start}
-use Rattle.mt_ram.proofs.Sets.{or_start-valid}
+use Rattle.mt_blocks.proofs.Tests.{or_start-valid}
 use Rattle.mt_ram.proofs.state.Ram.place_after.Goals as goal
 
 pub returns-clause-valid : goal.returns-clause-valid

@@ -14,10 +14,11 @@ use Rattle.mt_blocks.proofs.Passes.{block_first}
 use Rattle.mt_blocks.proofs.Words.{word_count-block}
 use Rattle.mt_ram.specs.declared.state.State.TheVariants.{Partial}
 use Rattle.mt_ram.specs.State.{RamTst, set_of, spans_in}
-use Rattle.mt_ram.specs.Table.{RunPartialTest, Runs, Refuses}
+use Rattle.mt_window.specs.Rows.{Runs, Refuses}
+use Rattle.mt_ram.specs.Table.{RunPartialTest, row, in_state}
 use Rattle.mt_ram.specs.Event.{of_test}
 use Rattle.mt_ram.proofs.Sets.{accepted_spans}
-use Rattle.mt_ram.proofs.WholeTests.{runs, runs_tape}
+use Rattle.mt_window.proofs.Rows.{runs, runs_tape}
 use Rattle.mt_ram.proofs.state.Ram.run_block.Goals as goal
 
 pub run_test-requires-clause-few : goal.run_test-requires-clause-few
@@ -43,13 +44,13 @@ returns-then-has_block-clause-scene g c =
     let L = pieces (set_of r).atomic i (span_at (spans_in r) i) in
     let from : Position = record { block = i; offset = 0 } in
     let ok : IsAcceptedSet r.setting.shape (set_of r) = subst (λ (x : RamTst). IsAcceptedSet x.setting.shape (set_of x)) c.set_state.ensures.state c.set_state.ensures.accepted in
-    let there = c.requires.row ∙ ap (λ (b : Bool). cond b (Runs L (Partial c.args.back) c.args.state) (Refuses refusal.Range)) (sym c.has_block.ensures ∙ c.if-has_block.true) in
+    let there = c.requires.row ∙ ap (λ (b : Bool). cond b (Runs L (in_state (Partial c.args.back)) (in_state c.args.state)) (Refuses refusal.Range)) (sym c.has_block.ensures ∙ c.if-has_block.true) in
     let made : y ≡ slices of_test L false (scene o.board inside o.log) =
     c.run_test.ensures.scene
     ∙ ap (λ (x : RamTst). slices of_test (block_from (set_of x).atomic (spans_in x) from) false (scene o.board x o.log)) c.set_state.ensures.state
     ∙ ap (λ (l : List Piece). slices of_test l false (scene o.board inside o.log)) (block_first (set_of r).atomic (spans_in r) i ok.atomic_some) in
     let end : z ≡ scene y.board (record (y.callee) { state = c.args.state }) y.log = ap (λ (x : RamTst). scene y.board x y.log) c.set_state-then-has_block.ensures.state in
-    runs of_test (RunPartialTest i) o z L (Partial c.args.back) c.args.state y there made end
+    runs (λ (r : RamTst). record r { mark = false }) (λ (r : RamTst). row r (RunPartialTest i)) of_test o z L (in_state (Partial c.args.back)) (in_state c.args.state) y there made end
 
 pub returns-then-has_block-clause-tape : goal.returns-then-has_block-clause-tape
 returns-then-has_block-clause-tape g c =
@@ -60,9 +61,9 @@ returns-then-has_block-clause-tape g c =
     let L = pieces (set_of r).atomic i (span_at (spans_in r) i) in
     let from : Position = record { block = i; offset = 0 } in
     let ok : IsAcceptedSet r.setting.shape (set_of r) = subst (λ (x : RamTst). IsAcceptedSet x.setting.shape (set_of x)) c.set_state.ensures.state c.set_state.ensures.accepted in
-    let there = c.requires.row ∙ ap (λ (b : Bool). cond b (Runs L (Partial c.args.back) c.args.state) (Refuses refusal.Range)) (sym c.has_block.ensures ∙ c.if-has_block.true) in
+    let there = c.requires.row ∙ ap (λ (b : Bool). cond b (Runs L (in_state (Partial c.args.back)) (in_state c.args.state)) (Refuses refusal.Range)) (sym c.has_block.ensures ∙ c.if-has_block.true) in
     let a = g.P.Port.tape c.args.port.now in
     let b = g.P.Port.tape c.run_test.new.port in
     let one = subst (λ (x : RamTst). Logs a b (touches of_test (block_from (set_of x).atomic (spans_in x) from) false (scene o.board x o.log))) c.set_state.ensures.state c.run_test.ensures.tape in
     let two = subst (λ (l : List Piece). Logs a b (touches of_test l false (scene o.board inside o.log))) (block_first (set_of r).atomic (spans_in r) i ok.atomic_some) one in
-    runs_tape of_test (RunPartialTest i) o L (Partial c.args.back) c.args.state a b there two
+    runs_tape (λ (r : RamTst). record r { mark = false }) (λ (r : RamTst). row r (RunPartialTest i)) of_test o L (in_state (Partial c.args.back)) (in_state c.args.state) a b there two

@@ -11,10 +11,11 @@ use Rattle.mt_blocks.proofs.Passes.{from_first}
 use Rattle.mt_blocks.proofs.Words.{word_count-pass}
 use Rattle.mt_ram.specs.declared.state.State.TheVariants.{Full, Stopped}
 use Rattle.mt_ram.specs.State.{RamTst, set_of, spans_in}
-use Rattle.mt_ram.specs.Table.{RunFullTest, cell}
+use Rattle.mt_ram.specs.Table.{RunFullTest, cell, row, in_state}
 use Rattle.mt_ram.specs.Event.{of_test}
-use Rattle.mt_ram.proofs.Sets.{accepted_spans, start_valid}
-use Rattle.mt_ram.proofs.WholeTests.{runs, runs_tape}
+use Rattle.mt_blocks.proofs.Tests.{start_valid}
+use Rattle.mt_ram.proofs.Sets.{accepted_spans}
+use Rattle.mt_window.proofs.Rows.{runs, runs_tape}
 use Rattle.mt_ram.proofs.state.Ram.run_full_from.Goals as goal
 
 pub run_test-requires-clause-valid : goal.run_test-requires-clause-valid
@@ -46,7 +47,7 @@ returns-in-Stopped-clause-scene g c =
     ∙ ap (λ (x : RamTst). slices of_test (from_place (set_of x).atomic (spans_in x) start) false (scene o.board x o.log)) c.set_state.ensures.state
     ∙ ap (λ (l : List Piece). slices of_test l false (scene o.board inside o.log)) (from_first (set_of r).atomic (spans_in r) 0 ok.atomic_some) in
     let end : z ≡ scene y.board (record (y.callee) { state = Stopped }) y.log = ap (λ (x : RamTst). scene y.board x y.log) c.set_state-in-Stopped.ensures.state in
-    runs of_test RunFullTest o z (pass (set_of r).atomic (spans_in r)) Full Stopped y (ap (cell r RunFullTest) (c.requires.state ∙ c.in-Stopped.is)) made end
+    runs (λ (r : RamTst). record r { mark = false }) (λ (r : RamTst). row r RunFullTest) of_test o z (pass (set_of r).atomic (spans_in r)) (in_state Full) (in_state Stopped) y (ap (cell r RunFullTest) (c.requires.state ∙ c.in-Stopped.is)) made end
 
 pub returns-in-Stopped-clause-tape : goal.returns-in-Stopped-clause-tape
 returns-in-Stopped-clause-tape g c =
@@ -58,4 +59,4 @@ returns-in-Stopped-clause-tape g c =
     let b = g.P.Port.tape c.run_test.new.port in
     let one = subst (λ (x : RamTst). Logs a b (touches of_test (from_place (set_of x).atomic (spans_in x) start) false (scene o.board x o.log))) c.set_state.ensures.state c.run_test.ensures.tape in
     let two = subst (λ (l : List Piece). Logs a b (touches of_test l false (scene o.board inside o.log))) (from_first (set_of r).atomic (spans_in r) 0 ok.atomic_some) one in
-    runs_tape of_test RunFullTest o (pass (set_of r).atomic (spans_in r)) Full Stopped a b (ap (cell r RunFullTest) (c.requires.state ∙ c.in-Stopped.is)) two
+    runs_tape (λ (r : RamTst). record r { mark = false }) (λ (r : RamTst). row r RunFullTest) of_test o (pass (set_of r).atomic (spans_in r)) (in_state Full) (in_state Stopped) a b (ap (cell r RunFullTest) (c.requires.state ∙ c.in-Stopped.is)) two

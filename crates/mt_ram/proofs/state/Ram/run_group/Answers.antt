@@ -8,8 +8,10 @@ use Rattle.mt_ram.specs.declared.state.State.{State}
 use Rattle.mt_ram.specs.declared.state.State.TheVariants.{Running}
 use Rattle.mt_ram.specs.State.{RamTst, set_of, spans_in, place_of}
 use Rattle.mt_ram.specs.Table.{MainFunction, row, cell}
-use Rattle.mt_ram.specs.Event.{of_pass, work_in}
-use Rattle.mt_ram.proofs.Ticks.{OnPlace, tick_step, drop_one_more, group_len-le, ticked, ticked_tape}
+use Rattle.mt_window.specs.Rows.{work_in}
+use Rattle.mt_ram.specs.Event.{of_pass}
+use Rattle.mt_blocks.proofs.Tests.{drop_one_more, group_len-le}
+use Rattle.mt_ram.proofs.Ticks.{OnPlace, tick_step, ticked, ticked_tape}
 use Rattle.mt_ram.proofs.state.Ram.run_group.Goals as goal
 
 pub loop-k-preserved : goal.loop-k-preserved

@@ -4,7 +4,8 @@ use Rattle.mt_window.specs.Serving.{scene, IsReady}
 use Rattle.mt_window.proofs.Slices.{Reaches}
 use Rattle.mt_ram.specs.State.{set_of}
 use Rattle.mt_ram.specs.Table.{MainFunction, row}
-use Rattle.mt_ram.specs.Event.{of_pass, work_in}
+use Rattle.mt_window.specs.Rows.{work_in}
+use Rattle.mt_ram.specs.Event.{of_pass}
 use Rattle.mt_ram.proofs.Ticks.{OnSet, OnPlace}
 use Rattle.mt_ram.proofs.state.Ram.run_group.Given as goal
 

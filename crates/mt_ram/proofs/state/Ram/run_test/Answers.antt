@@ -3,13 +3,14 @@ use Rattle.mt_window.specs.Serving.{scene}
 use Rattle.mt_window.proofs.Slices.{reaches-start, reaches-step}
 use Rattle.mt_blocks.specs.declared.pass.Position.{Position}
 use Rattle.mt_blocks.specs.declared.config.ParamSet.{ParamSet}
-use Rattle.mt_blocks.specs.Slices.{Piece, IsValid, piece_at}
+use Rattle.mt_blocks.specs.Slices.{Piece, IsValid, piece_at, test_from, test_rest, next_in}
 use Rattle.mt_blocks.specs.Laws.{word_count}
 use Rattle.mt_blocks.specs.Accepted.{spans_of}
 use Rattle.mt_ram.specs.State.{set_of, spans_in}
-use Rattle.mt_ram.specs.Event.{of_test, test_from, test_rest, next_in}
+use Rattle.mt_ram.specs.Event.{of_test}
 use Rattle.mt_ram.proofs.Sets.{accepted_spans}
-use Rattle.mt_ram.proofs.WholeTests.{test_split, next_in-valid, test_step}
+use Rattle.mt_blocks.proofs.Tests.{test_split, next_in-valid}
+use Rattle.mt_ram.proofs.WholeTests.{test_step}
 use Rattle.mt_ram.proofs.state.Ram.run_test.Goals as goal
 
 Some-inj : {p q : Position} → Some p ≡ Some q → p ≡ q
@@ -26,7 +27,7 @@ loop-next-init g c =
       shape = c.requires.shape;
       valid = λ p e. subst (IsValid (set_of r).atomic (spans_in r)) (Some-inj e) c.requires.valid;
       count = omega (arith, c.requires.start, c.requires.few);
-      reach = reaches-start of_test (test_from c.args.whole (set_of r) c.args.from) false (scene (g.P.Port.state c.args.port.now) r c.args.log.now) (g.P.Port.tape c.args.port.now);
+      reach = reaches-start of_test (test_from c.args.whole (set_of r).atomic (spans_in r) c.args.from) false (scene (g.P.Port.state c.args.port.now) r c.args.log.now) (g.P.Port.tape c.args.port.now);
     }
 
 pub next_of_test-next-requires : goal.next_of_test-next-requires
@@ -52,9 +53,9 @@ loop-next-smaller g c =
     let small : P.slice.n ≤ 64 = omega (arith, ap (λ (x : ParamSet). x.atomic) inv.on.same, inv.on.accepted.atomic_small) in
     let st = test_step set s z c.loop-next.failed P inv.on inv.inside small c.run_slice_of_test-failed.ensures.scene in
     let ok = accepted_spans s.callee.setting.shape set inv.on.limits inv.on.accepted in
-    let split = ap (test_rest c.args.whole set) c.in-Some.is ∙ test_split c.args.whole set at ok (inv.valid at c.in-Some.is) in
-    let next : c.next_of_test-next.result ≡ next_in c.args.whole set at = c.next_of_test-next.ensures ∙ ap (λ (x : ParamSet). next_in c.args.whole x at) st.on.same in
-    omega (arith, ap (λ (l : List Piece). length l) split, ap (λ (o : Option Position). length (test_rest c.args.whole set o)) next)
+    let split = ap (test_rest c.args.whole set.atomic (spans_of set.blocks)) c.in-Some.is ∙ test_split c.args.whole set.atomic (spans_of set.blocks) at ok (inv.valid at c.in-Some.is) in
+    let next : c.next_of_test-next.result ≡ next_in c.args.whole set.atomic (spans_of set.blocks) at = c.next_of_test-next.ensures ∙ ap (λ (x : ParamSet). next_in c.args.whole x.atomic (spans_of x.blocks) at) st.on.same in
+    omega (arith, ap (λ (l : List Piece). length l) split, ap (λ (o : Option Position). length (test_rest c.args.whole set.atomic (spans_of set.blocks) o)) next)
 
 pub loop-next-preserved : goal.loop-next-preserved
 loop-next-preserved g c =
@@ -69,12 +70,12 @@ loop-next-preserved g c =
     let small : P.slice.n ≤ 64 = omega (arith, ap (λ (x : ParamSet). x.atomic) inv.on.same, inv.on.accepted.atomic_small) in
     let st = test_step set s z c.loop-next.failed P inv.on inv.inside small c.run_slice_of_test-failed.ensures.scene in
     let ok = accepted_spans s.callee.setting.shape set inv.on.limits inv.on.accepted in
-    let next : c.next_of_test-next.result ≡ next_in whole set at = c.next_of_test-next.ensures ∙ ap (λ (x : ParamSet). next_in whole x at) st.on.same in
-    let more = test_rest whole set c.next_of_test-next.result in
+    let next : c.next_of_test-next.result ≡ next_in whole set.atomic (spans_of set.blocks) at = c.next_of_test-next.ensures ∙ ap (λ (x : ParamSet). next_in whole x.atomic (spans_of x.blocks) at) st.on.same in
+    let more = test_rest whole set.atomic (spans_of set.blocks) c.next_of_test-next.result in
     let piece : piece_at set.atomic (spans_of set.blocks) at ≡ P = sym (ap (λ (x : ParamSet). piece_at x.atomic (spans_of x.blocks) at) inv.on.same) in
-    let split : test_rest whole set c.loop-next.next ≡ P ∷ more =
-    ap (test_rest whole set) c.in-Some.is ∙ test_split whole set at ok (inv.valid at c.in-Some.is)
-    ∙ ap (λ (o : Option Position). piece_at set.atomic (spans_of set.blocks) at ∷ test_rest whole set o) (sym next)
+    let split : test_rest whole set.atomic (spans_of set.blocks) c.loop-next.next ≡ P ∷ more =
+    ap (test_rest whole set.atomic (spans_of set.blocks)) c.in-Some.is ∙ test_split whole set.atomic (spans_of set.blocks) at ok (inv.valid at c.in-Some.is)
+    ∙ ap (λ (o : Option Position). piece_at set.atomic (spans_of set.blocks) at ∷ test_rest whole set.atomic (spans_of set.blocks) o) (sym next)
     ∙ ap (λ (x : Piece). x ∷ more) piece in
     record {
       ready = c.run_slice_of_test-failed.ensures.ready;
@@ -82,9 +83,9 @@ loop-next-preserved g c =
       setting = st.setting ∙ inv.setting;
       inside = st.inside;
       shape = st.shape ∙ inv.shape;
-      valid = λ q e. next_in-valid whole set at q ok (inv.valid at c.in-Some.is) (sym next ∙ e);
+      valid = λ q e. next_in-valid whole set.atomic (spans_of set.blocks) at q ok (inv.valid at c.in-Some.is) (sym next ∙ e);
       count = omega (arith, st.count, inv.count, ap word_count split);
-      reach = reaches-step of_test (test_from whole set c.args.from) false (scene (g.P.Port.state c.args.port.now) r c.args.log.now) (g.P.Port.tape c.args.port.now)
-          (test_rest whole set c.loop-next.next) c.loop-next.failed s (g.P.Port.tape c.loop-next.port) P more c.run_slice_of_test-failed.result z (g.P.Port.tape c.run_slice_of_test-failed.new.port)
+      reach = reaches-step of_test (test_from whole set.atomic (spans_of set.blocks) c.args.from) false (scene (g.P.Port.state c.args.port.now) r c.args.log.now) (g.P.Port.tape c.args.port.now)
+          (test_rest whole set.atomic (spans_of set.blocks) c.loop-next.next) c.loop-next.failed s (g.P.Port.tape c.loop-next.port) P more c.run_slice_of_test-failed.result z (g.P.Port.tape c.run_slice_of_test-failed.new.port)
           inv.reach split refl c.run_slice_of_test-failed.ensures.scene c.run_slice_of_test-failed.ensures.failed c.run_slice_of_test-failed.ensures.tape;
     }
