@@ -29,6 +29,12 @@ no_block = record { span = no_span; policy = NonDestructive; fill = 0 }
 abbrev pub block_at : List Block → ℕ → Block
 block_at blocks i = slice_index_or blocks i no_block
 
+abbrev pub no_flash_block : FlashBlock
+no_flash_block = record { span = no_span; copy = 0 }
+
+abbrev pub flash_block_at : List FlashBlock → ℕ → FlashBlock
+flash_block_at blocks i = slice_index_or blocks i no_flash_block
+
 abbrev pub no_set : ParamSet
 no_set = record { alg = Checkerboard; background = 0; atomic = 1; cells = 1; blocks = [] }
 

@@ -1,20 +1,15 @@
 -- What running events and boundaries are known by.
-use Rattle.std.specs.Prelude.{ℕ, ◌≡◌, false, [], All}
-use Rattle.mt_port.specs.Board.{AreOrdered}
+use Rattle.std.specs.Prelude.{ℕ, ◌≡◌, false}
 use Rattle.mt_window.specs.Serving.{Scene, serve_due, serve_left}
-use Rattle.mt_window.specs.Events.{Running as Events, event, event_attempts}
-use Rattle.mt_window.specs.Waits.{IsShort}
+use Rattle.mt_window.specs.Events.{Running as Events, event}
+use Rattle.mt_window.specs.Waits.{WaitsAreShortIn}
 use Rattle.mt_seq.specs.declared.sequence.Verdict.{Verdict}
 use Rattle.mt_blocks.specs.Slices.{Piece}
 use Rattle.mt_ram.specs.State.{RamTst, IsRunning, IsInside}
 use Rattle.mt_ram.specs.Table.{Service, after, ram_table}
 use Rattle.mt_ram.specs.Event.{partial_test}
 
--- each wait of the event is 0, or below the length of the sequence that the request meets
-abbrev pub WaitsAreShortIn : Events RamTst Piece Verdict → Type 0
-WaitsAreShortIn call =
-    (s : Scene RamTst) → s.log ≡ [] → s.board.count ≡ 0 → AreOrdered s.board.left → All (IsShort (event_attempts call s)) ((event call s).after.log)
-
+-- of each partial test
 abbrev pub WaitsOfPartialTests : Type 0
 WaitsOfPartialTests = (block : ℕ) → WaitsAreShortIn (partial_test block)
 

@@ -1,7 +1,8 @@
 //! Laws of RamTst.
 
 ghost use Rattle.mt_ram.specs.Event.{ticking, full_test};
-ghost use Rattle.mt_ram.specs.Laws.{WaitsAreShortIn, WaitsOfPartialTests, BoundariesMove, RequestsLeftMove, ServicesLeaveSetting};
+ghost use Rattle.mt_window.specs.Waits.{WaitsAreShortIn};
+ghost use Rattle.mt_ram.specs.Laws.{WaitsOfPartialTests, BoundariesMove, RequestsLeftMove, ServicesLeaveSetting};
 
 /// Each request of a running event waits 0, or less than the length of the sequence that it meets.
 pub fn waits_of_running_calls()

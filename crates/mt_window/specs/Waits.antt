@@ -25,11 +25,13 @@ IsShort made (Served number place wait) = (wait ≡ 0) ⊎ Meets made place wait
 IsShort made (Inner reply) = Unit {0}
 IsShort made (Own reply) = Unit {0}
 
--- each wait of an event is so
+-- each wait of an event of this call is so
+abbrev pub WaitsAreShortIn : {C X V : Type 0} → Running C X V → Type 0
+WaitsAreShortIn {C} r =
+    (s : Scene C) → s.log ≡ [] → s.board.count ≡ 0 → AreOrdered s.board.left → All (IsShort (event_attempts r s)) ((event r s).after.log)
+
 abbrev pub WaitsAreShort : (C X V : Type 0) → Type 0
-WaitsAreShort C X V =
-    (r : Running C X V) (s : Scene C) → s.log ≡ [] → s.board.count ≡ 0 → AreOrdered s.board.left
-    → All (IsShort (event_attempts r s)) ((event r s).after.log)
+WaitsAreShort C X V = (r : Running C X V) → WaitsAreShortIn r
 
 -- an entry without what it tells: the number of a request, or an operation of one
 abbrev pub kinds : List Entry → List (Option ℕ)

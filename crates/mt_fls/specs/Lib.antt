@@ -1,0 +1,5 @@
+pub mod State
+pub mod Table
+pub mod Event
+pub mod Kept
+pub mod Laws

@@ -1,0 +1,12 @@
+//! The module FlsTst, after AUTOSAR, Specification of Flash Test: its services, its state table, and its running calls.
+#![tactic(auto)]
+
+mod callee;
+mod laws;
+mod running;
+mod services;
+mod slice;
+mod state;
+
+pub use laws::{handlers_leave_results, services_leave_setting, waits_of_running_calls};
+pub use state::{Back, Fls, State};
