@@ -1,3 +1,4 @@
+pub mod Comparison
 pub mod Lengths
 pub mod Makes
 pub mod Sound

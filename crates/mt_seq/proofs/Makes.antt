@@ -1,20 +1,16 @@
 -- Accesses that are made one after another.
-use Rattle.std.proofs.Common.{ℕ, zero, suc, add-one, ◌+◌, ◌<◌, ◌≡◌, ◌==◌, Bool, true, false, List, [], ◌∷◌, ◌++◌, map, take, reverse, length, get_or, Option, Some, None, refl, sym, ap, ◌∙◌, subst, arith, append_assoc, length-append, append-nil}
+use Rattle.std.proofs.Common.{ℕ, zero, suc, add-one, ◌+◌, ◌<◌, ◌≡◌, Bool, true, List, [], ◌∷◌, ◌++◌, map, take, length, get_or, Option, Some, None, refl, sym, ap, ◌∙◌, subst, arith, append_assoc, length-append, append-nil}
 use Rattle.std.specs.Prelude.{All, slice_get}
 use mathlib.Core.Bool.{◌&&◌}
-use Rattle.std.proofs.lemmas.List.{map-append, map_more, reverse-append}
+use Rattle.std.proofs.lemmas.List.{map-append, map_more}
 use Rattle.std.proofs.lemmas.Option.{slice_get_within}
 use Rattle.mt_plan.specs.Lists.{cells}
-use Rattle.std.proofs.lemmas.List.Elements.{All-append, All-tail, All-cons, All-nil}
-use Rattle.mt_word.specs.declared.Width.{Width}
-use Rattle.mt_fault.specs.declared.fault.Fault.{Fault}
-use Rattle.mt_fault.specs.History.{History}
-use Rattle.mt_fault.specs.Placement.{IsPlaced}
+use Rattle.std.proofs.lemmas.List.Elements.{All-append, All-cons, All-nil}
 use Rattle.mt_fault.specs.Faulty.{words_after}
-use Rattle.mt_fault.proofs.Spans.{words_cut, answer_cut, length-words_after}
+use Rattle.mt_fault.proofs.Spans.{words_cut, length-words_after}
 use Rattle.mt_port.specs.declared.board.Touch.{Touch}
 use Rattle.mt_port.specs.Board.{Board, IsSound, Logs}
-use Rattle.mt_fault.specs.Items.{Item, Look, Check, Store, place, access_of, history, agrees, passes}
+use Rattle.mt_fault.specs.Items.{Item, place, access_of, history, agrees, passes}
 use Rattle.mt_seq.specs.Tape.{touch_of}
 use Rattle.mt_fault.proofs.ItemLemmas.{history-append, passes-append, passes_cut, both, and_true}
 use Rattle.mt_seq.specs.Makes.{Makes}

@@ -1,5 +1,5 @@
--- What sequences answer on sound memory, and under a fault that the algorithm catches.
-use Rattle.std.specs.Prelude.{ℕ, ◌+◌, ◌*◌, ◌≤◌, ◌≡◌, nat_le, nat_lt, Bool, false, if◌then◌else◌, List, map, length, slice_index, None, ◌&&◌}
+-- What sequences answer on sound memory, and under a fault that the algorithm catches, and what a flash sequence finds.
+use Rattle.std.specs.Prelude.{ℕ, ◌+◌, ◌*◌, ◌<◌, ◌≤◌, ◌≡◌, nat_le, nat_lt, Bool, false, if◌then◌else◌, List, map, length, slice_index, None, ◌&&◌}
 use Rattle.std.specs.List.{range_with_len}
 use Rattle.mt_fault.specs.History.{History}
 use Rattle.mt_fault.specs.Items.{Item, passes}
@@ -10,6 +10,7 @@ use Rattle.mt_port.specs.Board.{Board}
 use Rattle.mt_seq.specs.declared.sequence.Slice.{Slice}
 use Rattle.mt_seq.specs.declared.sequence.Job.{Job}
 use Rattle.mt_seq.specs.declared.sequence.Verdict.TheVariants.{Pass, Fail}
+use Rattle.mt_seq.specs.Compare.{comparison, compare_touches, compare_hold}
 use Rattle.mt_seq.specs.Sequence.{saved_words, testing, sequence_verdict, sequence_words, sequence_hold}
 
 -- whether an address is one of the slice
@@ -49,3 +50,17 @@ CaughtFaultsFail =
 -- no sequence has more than 262 accesses a word
 abbrev pub SequencesAreShort : Type 0
 SequencesAreShort = (job : Job) (n : ℕ) → IsAccepted job.alg → n ≤ 64 → sequence_hold job n ≤ 262 * n
+
+-- a flash sequence has two accesses a word
+abbrev pub ComparisonsArePairs : Type 0
+ComparisonsArePairs = (first copy n : ℕ) → length (compare_touches first copy n) ≡ compare_hold n
+
+-- each of n flash words equals its copy
+abbrev pub EqualsCopy : List ℕ → (first copy n : ℕ) → Type 0
+EqualsCopy flash first copy n = (k : ℕ) → k < n → slice_index flash (first + k) ≡ slice_index flash (copy + k)
+
+-- a comparison finds nothing exactly where each word equals its copy
+abbrev pub NothingIsFoundWhereAllEqual : Type 0
+NothingIsFoundWhereAllEqual =
+    (flash : List ℕ) (first copy n : ℕ)
+    → (comparison flash first copy n ≡ None → EqualsCopy flash first copy n) × (EqualsCopy flash first copy n → comparison flash first copy n ≡ None)

@@ -1,5 +1,3 @@
-use Rattle.std.proofs.Common.{arith}
-use Rattle.mt_plan.proofs.Counts.{steps_few}
 use Rattle.mt_seq.proofs.Lengths.{holds_are_short}
 use Rattle.mt_seq.proofs.laws.sequences_are_short.Goals as goal
 

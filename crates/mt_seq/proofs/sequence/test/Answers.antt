@@ -1,12 +1,10 @@
-use Rattle.std.proofs.Common.{◌≡◌, ◌<◌, ◌≤◌, ◌+◌, ◌∷◌, [], ℕ, List, Some, None, inl, inr, length, map, take, refl, sym, arith, ap, ◌∙◌, subst}
+use Rattle.std.proofs.Common.{◌≡◌, ◌<◌, ◌≤◌, ◌+◌, ℕ, List, Some, None, inl, inr, length, map, take, refl, sym, arith, ap, ◌∙◌}
 use Rattle.std.specs.Prelude.{slice_get}
 use Rattle.std.proofs.lemmas.Option.{slice_get_within, slice_get_cases}
 use Rattle.std.proofs.lemmas.List.{take_all}
 use Rattle.mt_plan.specs.declared.algorithm.Step.{Step}
 use Rattle.mt_plan.specs.Plan.{steps_of}
-use Rattle.mt_plan.specs.Cursor.{cells_of, made_by}
-use Rattle.mt_port.specs.Board.{Board}
-use Rattle.mt_port.specs.declared.board.Shape.{Shape}
+use Rattle.mt_plan.specs.Cursor.{made_by}
 use Rattle.mt_fault.specs.Items.{Item}
 use Rattle.mt_seq.specs.Sequence.{item_of, back_of}
 use Rattle.mt_seq.proofs.Makes.{Makes-nil, Makes-more, Makes-same}

@@ -1,4 +1,4 @@
-use Rattle.std.proofs.Common.{rules, ◌≡◌, arith, ℕ}
+use Rattle.std.proofs.Common.{rules, ◌≡◌, arith}
 use Rattle.mt_plan.specs.declared.algorithm.Algorithm.TheVariants.{March}
 use Rattle.mt_plan.specs.declared.algorithm.Policy.TheVariants.{NonDestructive}
 use Rattle.mt_port.specs.Board.{powered_up}
