@@ -2,7 +2,7 @@
 use Rattle.std.specs.Prelude.{ℕ, ◌≡◌, Bool, true, false, length, refl, Option, Some, None, if◌then◌else◌, nat_lt}
 use Rattle.mt_port.specs.declared.request.HandlerCall.{HandlerCall}
 use Rattle.mt_window.specs.declared.reply.Refusal.TheVariants as refusal
-use Rattle.mt_window.specs.Rows.{Refuses, Runs, next_in, inside_of, back_from}
+use Rattle.mt_window.specs.Rows.{Refuses, Runs, CellKeeps}
 use Rattle.mt_blocks.specs.Slices.{pieces, span_at}
 use Rattle.mt_fls.specs.declared.state.Back.{Back}
 use Rattle.mt_fls.specs.declared.state.Back.TheVariants as back
@@ -11,9 +11,12 @@ use Rattle.mt_fls.specs.declared.state.State.TheVariants as state
 use Rattle.mt_fls.specs.State.{FlsTst, fgnd_spans}
 use Rattle.mt_fls.specs.Table.{Service, Init, DeInit, StartFgnd, Abort, Suspend, Resume, MainFunction, GetTestResultBgnd, GetTestResultFgnd, GetErrorDetails, GetCurrentState, GetVersionInfo, FlsCell, cell, in_state, state_of, comparing, after, handled, handler_next, fls_table}
 
--- a module has the same setting after a cell, while its slices are compared, and after them
+-- two modules with the same setting
+abbrev pub Same : FlsTst → FlsTst → Type 0
+Same a b = b.setting ≡ a.setting
+
 abbrev Leaves : FlsTst → FlsCell → Type 0
-Leaves f c = ((next_in c f).setting ≡ f.setting) × ((x : FlsTst) → ((inside_of c x).setting ≡ x.setting) × ((back_from c x).setting ≡ x.setting))
+Leaves = CellKeeps Same
 
 comparing_leaves : (f : FlsTst) (block : ℕ) (b : Back) → Leaves f (comparing f block b)
 comparing_leaves f block b = of (nat_lt block (length f.setting.config.fgnd))

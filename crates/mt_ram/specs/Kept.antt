@@ -4,16 +4,19 @@ use Rattle.mt_port.specs.declared.request.HandlerCall.{HandlerCall}
 use Rattle.mt_window.specs.declared.reply.Refusal.TheVariants as refusal
 use Rattle.mt_window.specs.declared.reply.Value.TheVariants as value
 use Rattle.mt_window.specs.declared.reply.TestResult.TheVariants.{NotTested}
-use Rattle.mt_window.specs.Rows.{Refuses, Goes, Answers, Runs, next_in, inside_of, back_from}
+use Rattle.mt_window.specs.Rows.{Refuses, Goes, Answers, Runs, CellKeeps}
 use Rattle.mt_blocks.specs.Slices.{pieces, span_at}
 use Rattle.mt_ram.specs.declared.state.State.{State}
 use Rattle.mt_ram.specs.declared.state.State.TheVariants.{Uninit, Stopped, Suspended, Partial}
 use Rattle.mt_ram.specs.State.{RamTst, set_of, spans_in}
 use Rattle.mt_ram.specs.Table.{Service, Init, DeInit, Allow, Stop, Suspend, Resume, SelectAlgParams, ChangeNumberOfTestedCells, RunFullTest, RunPartialTest, MainFunction, GetTestResultPerBlock, GetTestResult, GetAlgParams, GetTestAlgorithm, GetNumberOfTestedCells, GetExecutionStatus, GetVersionInfo, RamCell, cell, in_state, after, handled, handler_next, selecting, selected, changing, testing, telling, ram_table}
 
--- a module has the same setting after a cell, while its slices are tested, and after them
+-- two modules with the same setting
+abbrev pub Same : RamTst → RamTst → Type 0
+Same a b = b.setting ≡ a.setting
+
 abbrev Leaves : RamTst → RamCell → Type 0
-Leaves r c = ((next_in c r).setting ≡ r.setting) × ((x : RamTst) → ((inside_of c x).setting ≡ x.setting) × ((back_from c x).setting ≡ x.setting))
+Leaves = CellKeeps Same
 
 selecting_leaves : (r : RamTst) (set : ℕ) → Leaves r (selecting r set)
 selecting_leaves r set = of (nat_lt set (length r.setting.config.sets))

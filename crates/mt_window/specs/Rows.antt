@@ -59,6 +59,10 @@ back_from (Answers what) c = c
 back_from Rests c = c
 back_from (Runs slices inside back) c = back c
 
+-- a relation holds between a module and what a cell leaves of it, also while its slices are tested and after them
+abbrev pub CellKeeps : {C X : Type 0} → (C → C → Type 0) → C → Cell C X → Type 0
+CellKeeps {C} R c cell = R c (next_in cell c) × ((x : C) → R x (inside_of cell x) × R x (back_from cell x))
+
 -- a module that stays as it is
 abbrev pub staying : {C : Type 0} → C → C
 staying c = c
