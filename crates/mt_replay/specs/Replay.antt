@@ -1,5 +1,5 @@
 -- What the top call does.
-use Rattle.std.specs.Prelude.{ℕ, ◌≡◌, ◌⊎◌, Bool, true, false, List, [], ◌∷◌, ◌++◌, codes, Option, Some, None, String, string_bytes}
+use Rattle.std.specs.Prelude.{ℕ, ◌≡◌, ◌⊎◌, false, if◌then◌else◌, List, [], ◌∷◌, ◌++◌, codes, Option, Some, None, String, string_bytes}
 use Rattle.std.specs.declared.alloc.Global.{Global}
 use Rattle.std.specs.Str.{bytes_eq}
 use Rattle.std.specs.Io.KnownBytes.{Appends}
@@ -8,7 +8,6 @@ use Rattle.mt_port.specs.Streams.{AppendsFront, WhereTold}
 use Rattle.mt_port.specs.Board.{Board, Logs}
 use Rattle.mt_port.specs.declared.board.Touch.{Touch}
 use Rattle.mt_fault.specs.declared.fault.Fault.{Fault}
-use Rattle.mt_port.specs.declared.board.Shape.{Shape}
 use Rattle.mt_conf.specs.declared.config.Config.{Config}
 use Rattle.mt_conf.specs.Accepted.{IsAcceptedConfig}
 use Rattle.mt_replay.specs.declared.job.Found.{Found}
@@ -20,13 +19,21 @@ use Rattle.mt_replay.specs.declared.status.Status.TheVariants as status
 use Rattle.mt_replay.specs.Input.{Ending, Finished, Failed, Cut, cut, Parted}
 use Rattle.mt_replay.specs.Run.{Change}
 use Rattle.mt_replay.specs.Machine.{Machine, started}
-use Rattle.mt_replay.specs.Outcome.{After, Outcome, ran, bad_config, done, done_text, run_script, by_job, outcome, read_fault_text}
+use Rattle.mt_replay.specs.Outcome.{After, Outcome, bad_config, done, closing_text, opening_text, board_after, scripted, by_job, outcome, read_fault_text}
+use Rattle.mt_replay.specs.declared.form.Form.{Form}
+use Rattle.mt_replay.specs.declared.form.Form.TheVariants as forms
+use Rattle.mt_replay.specs.declared.form.Task.{Task}
 
--- the words that ask for a replay
-abbrev pub is_run : List (String Global) → Bool
-is_run [] = false
-is_run (word ∷ []) = bytes_eq (string_bytes word) (codes "run")
-is_run (word ∷ other ∷ words) = false
+-- the form that the words ask for, if they are one
+abbrev pub form_named : List ℕ → Option Form
+form_named name =
+    if bytes_eq name (codes "run") then Some forms.Run
+    else (if bytes_eq name (codes "check") then Some forms.Check else (if bytes_eq name (codes "fmt") then Some forms.Format else None))
+
+abbrev pub form_of : List (String Global) → Option Form
+form_of [] = None
+form_of (word ∷ []) = form_named (string_bytes word)
+form_of (word ∷ other ∷ words) = None
 
 abbrev pub usage_text : List ℕ
 usage_text = codes "usage\n"
@@ -103,10 +110,14 @@ StatusCaused status.ReadFault source source' sink sink' = Rose source source' ×
 StatusCaused status.WriteFault source source' sink sink' = Rose sink sink'
 StatusCaused how source source' sink sink' = (source' ≡ source) × (sink' ≡ sink)
 
--- Words that are no form leave the source and the board, and are told; the word run replays a job.
-abbrev pub Replays : Bool → Status → Outcomes → (old new : Board) → Change → (sink sink' : ℕ) → Type 0
-Replays true result given old new x sink sink' = JobGives result given old new x
-Replays false result given old new x sink sink' =
+-- what bytes give in a form, on a board with a defect or none
+abbrev pub outcomes : Form → Option Fault → Outcomes
+outcomes form defect ending bytes = outcome form ending defect bytes
+
+-- Words that are no form leave the source and the board, and are told; a form does what it asks for with the job.
+abbrev pub Replays : Option Form → Status → Option Fault → (old new : Board) → Change → (sink sink' : ℕ) → Type 0
+Replays (Some form) result defect old new x sink sink' = JobGives result (outcomes form defect) old new x
+Replays None result defect old new x sink sink' =
     Told result status.Usage usage_text x.held x.held' sink sink' × (x.left' ≡ x.left) × (new ≡ old) × (x.tape' ≡ x.tape)
 
 -- ---- between the two
@@ -114,9 +125,9 @@ Replays false result given old new x sink sink' =
 -- a configuration that was read is what its bytes are, whatever script follows
 abbrev pub IsFound : Found → List ℕ → Type 0
 IsFound found.NoMemory kept = Unit {0}
-IsFound (found.Refused why) kept = (ending : Ending) (defect : Option Fault) (lines : Cut) → by_job ending defect (Parted kept lines) ≡ bad_config why
+IsFound (found.Refused why) kept = (form : Form) (ending : Ending) (defect : Option Fault) (lines : Cut) → by_job form ending defect (Parted kept lines) ≡ bad_config why
 IsFound (found.Config c script) kept =
-    (ending : Ending) (defect : Option Fault) (lines : Cut) → by_job ending defect (Parted kept lines) ≡ ran (run_script ending c.shape (started c defect) 1 lines)
+    (form : Form) (ending : Ending) (defect : Option Fault) (lines : Cut) → by_job form ending defect (Parted kept lines) ≡ scripted form c ending (started c defect) lines
 
 -- a configuration comes with this script
 abbrev pub HasScript : Script → Found → Type 0
@@ -129,25 +140,31 @@ IsAcceptedFound found.NoMemory = Unit {0}
 IsAcceptedFound (found.Refused why) = Unit {0}
 IsAcceptedFound (found.Config c script) = IsAcceptedConfig c
 
--- a machine of this shape is that of the start
-pub record IsStart (shape : Shape) (c : Config) (defect : Option Fault) (m : Machine) : Type 0 where
-  pub machine : m ≡ started c defect
-  pub same : shape ≡ c.shape
+-- Only a replay uses the board: it is that of the start, with an empty tape. Else it is as it was.
+abbrev pub BeginsAs : Form → Config → Option Fault → Machine → (before : Board) → (was tape : Option (List Touch)) → Type 0
+BeginsAs forms.Run c defect m before was tape = (m ≡ started c defect) × (tape ≡ Some [])
+BeginsAs forms.Check c defect m before was tape = (m.board ≡ before) × (tape ≡ was)
+BeginsAs forms.Format c defect m before was tape = (m.board ≡ before) × (tape ≡ was)
+
+-- a machine with which the script of a configuration begins
+pub record IsStart (task : Task) (c : Config) (defect : Option Fault) (m : Machine) (before : Board) (was tape : Option (List Touch)) : Type 0 where
+  pub begins : BeginsAs task.form c defect m before was tape
+  pub same : task.shape ≡ c.shape
 
 -- The configuration was taken, and the bytes behind it are its script.
 pub record Begins (c : Config) (before after : List ℕ) : Type 0 where
   pub front : List ℕ
   pub taken : before ≡ front ++ after
-  pub is : (ending : Ending) (defect : Option Fault) (rest : List ℕ) → outcome ending defect (front ++ rest) ≡ ran (run_script ending c.shape (started c defect) 1 (cut rest))
+  pub is : (form : Form) (ending : Ending) (defect : Option Fault) (rest : List ℕ) → outcome form ending defect (front ++ rest) ≡ scripted form c ending (started c defect) (cut rest)
 
 -- The input ended with the configuration's separator.
 pub record BeginsEmpty (c : Config) (before after : List ℕ) : Type 0 where
-  pub is : (defect : Option Fault) → outcome Finished defect before ≡ ran (done (started c defect) 0)
+  pub is : (form : Form) (defect : Option Fault) → outcome form Finished defect before ≡ scripted form c Finished (started c defect) (record { lines = []; rest = [] })
   pub all : after ≡ []
 
 abbrev pub FoundGives : Found → (before after : List ℕ) → Type 0
 FoundGives found.NoMemory before after = Unit {0}
-FoundGives (found.Refused why) before after = (defect : Option Fault) → outcome Finished defect before ≡ bad_config why
+FoundGives (found.Refused why) before after = (form : Form) (defect : Option Fault) → outcome form Finished defect before ≡ bad_config why
 FoundGives (found.Config c script.Follows) before after = Begins c before after
 FoundGives (found.Config c script.Empty) before after = BeginsEmpty c before after
 
@@ -155,17 +172,20 @@ FoundGives (found.Config c script.Empty) before after = BeginsEmpty c before aft
 pub record HeadFails (before after : List ℕ) : Type 0 where
   pub front : List ℕ
   pub taken : before ≡ front ++ after
-  pub is : (defect : Option Fault) → outcome Failed defect front ≡ record { text = read_fault_text; status = status.ReadFault; after = None }
+  pub is : (form : Form) (defect : Option Fault) → outcome form Failed defect front ≡ record { text = read_fault_text; status = status.ReadFault; after = None }
 
--- A configuration with an empty script gives the closing line, where there was memory.
-abbrev pub EmptyGives : Status → Config → Option Fault → (old new : Board) → Change → (sink sink' : ℕ) → Type 0
-EmptyGives result c defect old new x sink sink' =
+-- what an empty script gives
+abbrev pub empty_text : Form → Config → List ℕ
+empty_text form c = opening_text form c ++ closing_text form 0
+
+abbrev pub empty_after : Form → Config → Option Fault → Option After
+empty_after form c defect = board_after form (done (record { form = form; shape = c.shape }) (started c defect) 0)
+
+-- A configuration with an empty script gives its text, where there was memory.
+abbrev pub EmptyGives : Status → Form → Config → Option Fault → (old new : Board) → Change → (sink sink' : ℕ) → Type 0
+EmptyGives result form c defect old new x sink sink' =
     ((result ≡ status.NoMemory) × (x.held' ≡ x.held) × (new ≡ old) × (x.tape' ≡ x.tape) × (sink' ≡ sink))
-    ⊎ (Told result status.Done (done_text 0) x.held x.held' sink sink' × (new ≡ (started c defect).board) × (x.tape' ≡ Some []))
-
--- what bytes give on a board with a defect or none
-abbrev pub outcomes : Option Fault → Outcomes
-outcomes defect ending bytes = outcome ending defect bytes
+    ⊎ (Told result status.Done (empty_text form c) x.held x.held' sink sink' × BoardIs (empty_after form c defect) old new x.tape x.tape')
 
 -- A board that was not held is not held afterwards, and one without requests has none.
 abbrev pub StaysFree : (old new : Board) → Type 0

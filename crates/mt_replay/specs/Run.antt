@@ -6,6 +6,9 @@ use Rattle.mt_port.specs.Streams.{AppendsFront, WhereTold}
 use Rattle.mt_port.specs.Board.{Board, Logs}
 use Rattle.mt_port.specs.declared.board.Touch.{Touch}
 use Rattle.mt_port.specs.declared.board.Shape.{Shape}
+use Rattle.mt_replay.specs.declared.form.Form.{Form}
+use Rattle.mt_replay.specs.declared.form.Form.TheVariants as forms
+use Rattle.mt_replay.specs.declared.form.Task.{Task}
 use Rattle.mt_replay.specs.declared.run.Fault.{Fault}
 use Rattle.mt_replay.specs.declared.run.Fault.TheVariants as fault
 use Rattle.mt_replay.specs.declared.run.Turn.{Turn}
@@ -13,7 +16,7 @@ use Rattle.mt_replay.specs.declared.run.Turn.TheVariants as turn
 use Rattle.mt_replay.specs.declared.status.Status.{Status}
 use Rattle.mt_replay.specs.declared.status.Status.TheVariants as status
 use Rattle.mt_replay.specs.Input.{Ending, Finished, Failed, cut}
-use Rattle.mt_replay.specs.Machine.{Machine}
+use Rattle.mt_replay.specs.Machine.{Machine, IsReady}
 use Rattle.mt_replay.specs.Outcome.{Run, preceded, run_script, read_fault_text}
 
 -- A fault comes only where the count of its stream rose, and every other count stays.
@@ -38,18 +41,18 @@ pub record Change : Type 0 where
   pub tape' : Option (List Touch)
 
 -- The bytes between here and there give a text and accesses, and then what the bytes behind them give, whichever these are.
-pub record Crosses (c : Shape) (m m' : Machine) (number number' : ℕ) (text : List ℕ) (touches : List Touch) (before after : List ℕ) : Type 0 where
+pub record Crosses (task : Task) (m m' : Machine) (number number' : ℕ) (text : List ℕ) (touches : List Touch) (before after : List ℕ) : Type 0 where
   pub front : List ℕ
   pub taken : before ≡ front ++ after
-  pub run : (ending : Ending) (rest : List ℕ) → run_script ending c m number (cut (front ++ rest)) ≡ preceded text touches (run_script ending c m' number' (cut rest))
+  pub run : (ending : Ending) (rest : List ℕ) → run_script task ending m number (cut (front ++ rest)) ≡ preceded text touches (run_script task ending m' number' (cut rest))
 
 -- From here to there some text was written and some accesses were made, and what the script gives is these and then what the rest of it gives.
-pub record Goes (c : Shape) (m m' : Machine) (number number' : ℕ) (x : Change) : Type 0 where
+pub record Goes (task : Task) (m m' : Machine) (number number' : ℕ) (x : Change) : Type 0 where
   pub text : List ℕ
   pub touches : List Touch
   pub written : Appends x.held x.held' text
   pub taped : Logs x.tape x.tape' touches
-  pub run : WhereTold x.left x.left' (Crosses c m m' number number' text touches)
+  pub run : WhereTold x.left x.left' (Crosses task m m' number number' text touches)
 
 -- an end that is no fault
 abbrev pub IsPlain : Status → Type 0
@@ -62,34 +65,34 @@ IsPlain status.WriteFault = ⊥
 IsPlain status.NoMemory = ⊥
 
 -- The script gives the text that was written, the accesses that were made, this status, and the board as it is. Done comes at the end of the input.
-pub record Ends (c : Shape) (m : Machine) (number : ℕ) (board : Board) (how : Status) (x : Change) : Type 0 where
+pub record Ends (task : Task) (m : Machine) (number : ℕ) (board : Board) (how : Status) (x : Change) : Type 0 where
   pub plain : IsPlain how
   pub text : List ℕ
   pub touches : List Touch
   pub written : Appends x.held x.held' text
   pub taped : Logs x.tape x.tape' touches
-  pub run : WhereTold x.left x.left' (λ before after. run_script Finished c m number (cut before) ≡ record { text = text; touches = touches; status = how; board = board })
+  pub run : WhereTold x.left x.left' (λ before after. run_script task Finished m number (cut before) ≡ record { text = text; touches = touches; status = how; board = board })
   pub all : how ≡ status.Done → WhereTold x.left x.left' (λ before after. after ≡ [])
 
 -- Some bytes were taken, and then the source failed.
-pub record Breaking (c : Shape) (m : Machine) (number : ℕ) (text : List ℕ) (touches : List Touch) (board : Board) (before after : List ℕ) : Type 0 where
+pub record Breaking (task : Task) (m : Machine) (number : ℕ) (text : List ℕ) (touches : List Touch) (board : Board) (before after : List ℕ) : Type 0 where
   pub front : List ℕ
   pub taken : before ≡ front ++ after
-  pub run : run_script Failed c m number (cut front) ≡ record { text = text ++ read_fault_text; touches = touches; status = status.ReadFault; board = board }
+  pub run : run_script task Failed m number (cut front) ≡ record { text = text ++ read_fault_text; touches = touches; status = status.ReadFault; board = board }
 
 -- The source failed: the bytes that were taken give the text that was written, and then the text of the fault.
-pub record Breaks (c : Shape) (m : Machine) (number : ℕ) (board : Board) (x : Change) : Type 0 where
+pub record Breaks (task : Task) (m : Machine) (number : ℕ) (board : Board) (x : Change) : Type 0 where
   pub text : List ℕ
   pub touches : List Touch
   pub written : Appends x.held x.held' text
   pub taped : Logs x.tape x.tape' touches
-  pub run : WhereTold x.left x.left' (Breaking c m number text touches board)
+  pub run : WhereTold x.left x.left' (Breaking task m number text touches board)
 
 -- The sink failed: a front of what the script gives was written.
-pub record Stops (c : Shape) (m : Machine) (number : ℕ) (x : Change) : Type 0 where
+pub record Stops (task : Task) (m : Machine) (number : ℕ) (x : Change) : Type 0 where
   pub text : List ℕ
   pub written : AppendsFront x.held x.held' text
-  pub run : WhereTold x.left x.left' (λ before after. (more : List ℕ) × ((run_script Finished c m number (cut before)).text ≡ text ++ more))
+  pub run : WhereTold x.left x.left' (λ before after. (more : List ℕ) × ((run_script task Finished m number (cut before)).text ≡ text ++ more))
 
 -- how a line is judged, for what follows it
 abbrev pub Judging : Type 0
@@ -150,14 +153,26 @@ EndGives (Err fault.Read) run m' x = ⊥
 EndGives (Err fault.Write) run m' x = Fronts run x
 
 -- what came of one line
-abbrev pub TurnGives : Result Turn Fault → Shape → Machine → Machine → ℕ → Change → Type 0
-TurnGives (Ok turn.More) c m m' number x = Goes c m m' number (number + 1) x
-TurnGives (Ok (turn.Ended how)) c m m' number x = Ends c m number m'.board how x
-TurnGives (Err fault.Read) c m m' number x = Breaks c m number m'.board x
-TurnGives (Err fault.Write) c m m' number x = Stops c m number x
+abbrev pub TurnGives : Result Turn Fault → Task → Machine → Machine → ℕ → Change → Type 0
+TurnGives (Ok turn.More) task m m' number x = Goes task m m' number (number + 1) x
+TurnGives (Ok (turn.Ended how)) task m m' number x = Ends task m number m'.board how x
+TurnGives (Err fault.Read) task m m' number x = Breaks task m number m'.board x
+TurnGives (Err fault.Write) task m m' number x = Stops task m number x
 
 -- what came of a script from a line on
-abbrev pub ScriptGives : Result Status Fault → Shape → Machine → Machine → ℕ → Change → Type 0
-ScriptGives (Ok how) c m m' number x = Ends c m number m'.board how x
-ScriptGives (Err fault.Read) c m m' number x = Breaks c m number m'.board x
-ScriptGives (Err fault.Write) c m m' number x = Stops c m number x
+abbrev pub ScriptGives : Result Status Fault → Task → Machine → Machine → ℕ → Change → Type 0
+ScriptGives (Ok how) task m m' number x = Ends task m number m'.board how x
+ScriptGives (Err fault.Read) task m m' number x = Breaks task m number m'.board x
+ScriptGives (Err fault.Write) task m m' number x = Stops task m number x
+
+-- a replay needs a machine that is ready; the other forms need none
+abbrev pub IsReadyFor : Form → Shape → Machine → Type 0
+IsReadyFor forms.Run shape m = IsReady shape m
+IsReadyFor forms.Check shape m = Unit {0}
+IsReadyFor forms.Format shape m = Unit {0}
+
+-- only a replay uses the board
+abbrev pub UsesBoard : Form → (old new : Board) → (tape tape' : Option (List Touch)) → Type 0
+UsesBoard forms.Run old new tape tape' = Unit {0}
+UsesBoard forms.Check old new tape tape' = (new ≡ old) × (tape' ≡ tape)
+UsesBoard forms.Format old new tape tape' = (new ≡ old) × (tape' ≡ tape)

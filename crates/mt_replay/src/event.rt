@@ -2,30 +2,25 @@
 
 ghost use Rattle.std.specs.Prelude.{◌≡◌, [], ◌∷◌, None, false};
 ghost use Rattle.mt_port.specs.Board.{AreSoundRequests, Logs};
-ghost use Rattle.mt_port.specs.declared.request.Module.TheVariants.{RamTst as Itself};
+ghost use Rattle.mt_port.specs.declared.request.Module.TheVariants.{RamTst, FlsTst};
 ghost use Rattle.mt_text.specs.Accepted.{AreFor, IsAccepted as IsAcceptedLine};
 ghost use Rattle.mt_text.specs.Lines.{running_module};
 ghost use Rattle.mt_fault.specs.Placement.{IsWellPlaced};
 ghost use Rattle.mt_window.specs.Serving.{given, scene, IsReady as IsReadyToServe};
 ghost use Rattle.mt_window.specs.Events.{event as event_of, event_touches};
 ghost use Rattle.mt_ram.specs.Table.{reply_to, after};
-ghost use Rattle.mt_replay.specs.Machine.{Machine, IsReady, events_of, running_call, service_of, by_ram, running};
+ghost use Rattle.mt_fls.specs.Table as fls_table;
+ghost use Rattle.mt_replay.specs.Machine.{Machine, IsReady, events_of, running_call, service_of, by_ram, running_ram, fls_events_of, fls_running_call, fls_service_of, by_fls, running_fls};
 ghost use Rattle.mt_replay.specs.Events.{AnswerGives, AreReady, Does, Injects};
 
+use crate::modules::Modules;
 use arrayvec::ArrayVec;
 use mt_fault::Fault;
-use mt_port::{Answer as AppAnswer, Bench, Request};
+use mt_fls::Fls;
+use mt_port::{Answer, Bench, Request};
 use mt_ram::Ram;
-use mt_text::{Event, Line, RamCall};
+use mt_text::{Event, FlsCall, Line, RamCall};
 use mt_window::{EventLog, Reply, Value};
-
-/// How a line is answered, behind what it entered in the log: with nothing, with its own reply, or by no module yet.
-#[derive(Clone, Copy, Debug, PartialEq, Eq)]
-pub enum Answer {
-    Silent,
-    Own(Reply),
-    Unknown,
-}
 
 /// The calls of RamTst that run tests.
 #[derive(Clone, Copy, Debug, PartialEq, Eq)]
@@ -35,16 +30,23 @@ pub enum Running {
     Partial(u32),
 }
 
+/// The calls of FlsTst that run tests.
+#[derive(Clone, Copy, Debug, PartialEq, Eq)]
+pub enum FlsRunning {
+    Tick,
+    Foreground(u32),
+}
+
 // The requests of an event, as they are handed to it.
 type Requests = ArrayVec<Request, 16>;
 
 // The reply to an operation of the application.
-fn reply_of(answer: AppAnswer) -> Reply
+fn reply_of(answer: Answer) -> Reply
     ensures { result ≡ given answer }
 {
     match answer {
-        AppAnswer::Done => Reply::Done,
-        AppAnswer::Word(word) => Reply::Value(Value::Word(word)),
+        Answer::Done => Reply::Done,
+        Answer::Word(word) => Reply::Value(Value::Word(word)),
     }
 }
 
@@ -60,9 +62,9 @@ fn inject<B: Bench>(board: &mut B, fault: Fault) -> Reply
     }
 }
 
-// A running call on a board whose event has begun.
+// A running call of RamTst on a board whose event has begun.
 fn make<B: Bench>(ram: &mut Ram, board: &mut B, call: Running, log: &mut EventLog) -> Reply
-    requires ready { IsReadyToServe Itself (B.state board.old) log.old }
+    requires ready { IsReadyToServe RamTst (B.state board.old) log.old }
     requires shape { (B.state board.old).shape ≡ ram.old.setting.shape }
     requires start { (B.state board.old).count ≡ 0 }
     ensures event { record { after = scene (B.state board.new) ram.new log.new; reply = result } ≡ event_of (events_of call) (scene (B.state board.old) ram.old log.old) }
@@ -79,22 +81,65 @@ fn make<B: Bench>(ram: &mut Ram, board: &mut B, call: Running, log: &mut EventLo
     }
 }
 
-// A running call, as one event with these requests.
+// A running call of FlsTst on a board whose event has begun.
+fn make_fls<B: Bench>(
+    fls: &mut Fls,
+    board: &mut B,
+    call: FlsRunning,
+    log: &mut EventLog,
+) -> Reply
+    requires ready { IsReadyToServe FlsTst (B.state board.old) log.old }
+    requires shape { (B.state board.old).shape ≡ fls.old.setting.shape }
+    requires start { (B.state board.old).count ≡ 0 }
+    ensures event { record { after = scene (B.state board.new) fls.new log.new; reply = result } ≡ event_of (fls_events_of call) (scene (B.state board.old) fls.old log.old) }
+    ensures tape { Logs (B.tape board.old) (B.tape board.new) (event_touches (fls_events_of call) (scene (B.state board.old) fls.old log.old)) }
+    ensures setting { fls.new.setting ≡ fls.old.setting }
+    ensures shape { (B.state board.new).shape ≡ (B.state board.old).shape }
+    ensures none { (B.state board.new).left ≡ [] }
+    ensures free { (B.state board.new).held ≡ false }
+{
+    match call {
+        FlsRunning::Tick => fls.tick(board, log),
+        FlsRunning::Foreground(block) => fls.start_fgnd(board, log, block),
+    }
+}
+
+// A running call of RamTst, as one event with these requests.
 fn run<B: Bench>(
-    ram: &mut Ram,
+    modules: &mut Modules,
     board: &mut B,
     call: Running,
     requests: Requests,
     log: &mut EventLog,
 ) -> Reply
-    requires ready { IsReady (B.state board.old).shape (record { board = B.state board.old; ram = ram.old }) }
+    requires ready { IsReady (B.state board.old).shape (record { board = B.state board.old; modules = modules.old }) }
     requires empty { log.old ≡ [] }
-    requires requests { AreReady (B.state board.old).shape requests.items }
-    ensures does { Does (running (events_of call) (record { board = B.state board.old; ram = ram.old }) requests.items) (record { board = B.state board.new; ram = ram.new }) result log.new (B.tape board.old) (B.tape board.new) }
-    ensures ready { IsReady (B.state board.old).shape (record { board = B.state board.new; ram = ram.new }) }
+    requires requests { AreReady RamTst (B.state board.old).shape requests.items }
+    ensures does { Does (running_ram call (record { board = B.state board.old; modules = modules.old }) requests.items) (record { board = B.state board.new; modules = modules.new }) result log.new (B.tape board.old) (B.tape board.new) }
+    ensures ready { IsReady (B.state board.old).shape (record { board = B.state board.new; modules = modules.new }) }
 {
     board.begin_event(requests);
-    let reply = make(ram, board, call, log);
+    let reply = make(&mut modules.ram, board, call, log);
+    board.end_event();
+    reply
+}
+
+// A running call of FlsTst, as one event with these requests.
+fn run_fls<B: Bench>(
+    modules: &mut Modules,
+    board: &mut B,
+    call: FlsRunning,
+    requests: Requests,
+    log: &mut EventLog,
+) -> Reply
+    requires ready { IsReady (B.state board.old).shape (record { board = B.state board.old; modules = modules.old }) }
+    requires empty { log.old ≡ [] }
+    requires requests { AreReady FlsTst (B.state board.old).shape requests.items }
+    ensures does { Does (running_fls call (record { board = B.state board.old; modules = modules.old }) requests.items) (record { board = B.state board.new; modules = modules.new }) result log.new (B.tape board.old) (B.tape board.new) }
+    ensures ready { IsReady (B.state board.old).shape (record { board = B.state board.new; modules = modules.new }) }
+{
+    board.begin_event(requests);
+    let reply = make_fls(&mut modules.fls, board, call, log);
     board.end_event();
     reply
 }
@@ -110,7 +155,16 @@ fn running_of(call: RamCall) -> Option<Running>
     }
 }
 
-// A service that is answered at once.
+fn fls_running_of(call: FlsCall) -> Option<FlsRunning>
+    ensures { result ≡ fls_running_call call }
+{
+    match call {
+        FlsCall::StartFgnd(block) => Some(FlsRunning::Foreground(block)),
+        _ => None,
+    }
+}
+
+// A service of RamTst that is answered at once.
 #[tactic(auto, using(crate::proofs::Services::stays_result, crate::proofs::Services::stays_per_block, crate::proofs::Services::stays_params, crate::proofs::Services::stays_algorithm, crate::proofs::Services::stays_cells))]
 fn serve(ram: &mut Ram, call: RamCall) -> Reply
     requires { running_call call ≡ None }
@@ -138,54 +192,105 @@ fn serve(ram: &mut Ram, call: RamCall) -> Reply
     }
 }
 
+// A service of FlsTst that is answered at once.
+#[tactic(auto, using(crate::proofs::Services::stays_bgnd, crate::proofs::Services::stays_fgnd, crate::proofs::Services::stays_details))]
+fn serve_fls(fls: &mut Fls, call: FlsCall) -> Reply
+    requires { fls_running_call call ≡ None }
+    ensures reply { result ≡ fls_table.reply_to fls.old (fls_service_of call) }
+    ensures next { fls.new ≡ fls_table.after fls.old (fls_service_of call) }
+    ensures setting { fls.new.setting ≡ fls.old.setting }
+{
+    match call {
+        FlsCall::Init => fls.init(),
+        FlsCall::DeInit => fls.de_init(),
+        FlsCall::Abort => fls.abort(),
+        FlsCall::Suspend => fls.suspend(),
+        FlsCall::Resume => fls.resume(),
+        FlsCall::GetCurrentState => fls.get_current_state(),
+        FlsCall::GetTestResultBgnd => fls.get_test_result_bgnd(),
+        FlsCall::GetTestResultFgnd => fls.get_test_result_fgnd(),
+        FlsCall::GetErrorDetails => fls.get_error_details(),
+        FlsCall::GetVersionInfo => fls.get_version_info(),
+        FlsCall::StartFgnd(_) => unreachable!(),
+    }
+}
+
 // A call of RamTst.
 fn call_ram<B: Bench>(
-    ram: &mut Ram,
+    modules: &mut Modules,
     board: &mut B,
     call: RamCall,
     requests: Requests,
     log: &mut EventLog,
 ) -> Reply
-    requires ready { IsReady (B.state board.old).shape (record { board = B.state board.old; ram = ram.old }) }
+    requires ready { IsReady (B.state board.old).shape (record { board = B.state board.old; modules = modules.old }) }
     requires empty { log.old ≡ [] }
     requires sound { AreSoundRequests (B.state board.old).shape requests.items }
     requires callees { AreFor (running_module (Event.Ram call)) requests.items }
-    ensures does { Does (by_ram (record { board = B.state board.old; ram = ram.old }) call requests.items) (record { board = B.state board.new; ram = ram.new }) result log.new (B.tape board.old) (B.tape board.new) }
-    ensures ready { IsReady (B.state board.old).shape (record { board = B.state board.new; ram = ram.new }) }
+    ensures does { Does (by_ram (record { board = B.state board.old; modules = modules.old }) call requests.items) (record { board = B.state board.new; modules = modules.new }) result log.new (B.tape board.old) (B.tape board.new) }
+    ensures ready { IsReady (B.state board.old).shape (record { board = B.state board.new; modules = modules.new }) }
 {
     match running_of(call) {
-        Some(running) => run(ram, board, running, requests, log),
-        None => serve(ram, call),
+        Some(running) => run(modules, board, running, requests, log),
+        None => serve(&mut modules.ram, call),
     }
 }
 
-/// Does what an accepted line asks for. What its requests make is entered in the log.
+// A call of FlsTst.
+fn call_fls<B: Bench>(
+    modules: &mut Modules,
+    board: &mut B,
+    call: FlsCall,
+    requests: Requests,
+    log: &mut EventLog,
+) -> Reply
+    requires ready { IsReady (B.state board.old).shape (record { board = B.state board.old; modules = modules.old }) }
+    requires empty { log.old ≡ [] }
+    requires sound { AreSoundRequests (B.state board.old).shape requests.items }
+    requires callees { AreFor (running_module (Event.Fls call)) requests.items }
+    ensures does { Does (by_fls (record { board = B.state board.old; modules = modules.old }) call requests.items) (record { board = B.state board.new; modules = modules.new }) result log.new (B.tape board.old) (B.tape board.new) }
+    ensures ready { IsReady (B.state board.old).shape (record { board = B.state board.new; modules = modules.new }) }
+{
+    match fls_running_of(call) {
+        Some(running) => run_fls(modules, board, running, requests, log),
+        None => serve_fls(&mut modules.fls, call),
+    }
+}
+
+/// Does what an accepted line asks for. What its requests make is entered in the log, and the line's own reply is
+/// answered; a line that does nothing has none.
 #[tactic(auto, unfolding(crate::specs::Machine::step))]
-pub fn perform<B: Bench>(ram: &mut Ram, board: &mut B, line: Line, log: &mut EventLog) -> Answer
-    requires ready { IsReady (B.state board.old).shape (record { board = B.state board.old; ram = ram.old }) }
+pub fn perform<B: Bench>(
+    modules: &mut Modules,
+    board: &mut B,
+    line: Line,
+    log: &mut EventLog,
+) -> Option<Reply>
+    requires ready { IsReady (B.state board.old).shape (record { board = B.state board.old; modules = modules.old }) }
     requires line { IsAcceptedLine (B.state board.old).shape line }
     requires empty { log.old ≡ [] }
-    ensures gives { AnswerGives result (record { board = B.state board.old; ram = ram.old }) (record { board = B.state board.new; ram = ram.new }) line log.new (B.tape board.old) (B.tape board.new) }
-    ensures ready { IsReady (B.state board.old).shape (record { board = B.state board.new; ram = ram.new }) }
+    ensures gives { AnswerGives result (record { board = B.state board.old; modules = modules.old }) (record { board = B.state board.new; modules = modules.new }) line log.new (B.tape board.old) (B.tape board.new) }
+    ensures ready { IsReady (B.state board.old).shape (record { board = B.state board.new; modules = modules.new }) }
 {
     match line.event {
-        Event::Nothing => Answer::Silent,
-        Event::TickRam => Answer::Own(run(ram, board, Running::Tick, line.requests, log)),
-        Event::Ram(call) => Answer::Own(call_ram(ram, board, call, line.requests, log)),
-        Event::Fls(_) | Event::TickFls => Answer::Unknown,
-        Event::App(op) => Answer::Own(reply_of(board.app(&op))),
-        Event::Inject(fault) => Answer::Own(inject(board, fault)),
+        Event::Nothing => None,
+        Event::TickRam => Some(run(modules, board, Running::Tick, line.requests, log)),
+        Event::TickFls => Some(run_fls(modules, board, FlsRunning::Tick, line.requests, log)),
+        Event::Ram(call) => Some(call_ram(modules, board, call, line.requests, log)),
+        Event::Fls(call) => Some(call_fls(modules, board, call, line.requests, log)),
+        Event::App(op) => Some(reply_of(board.app(&op))),
+        Event::Inject(fault) => Some(inject(board, fault)),
         Event::Heal => {
             board.heal();
-            Answer::Own(Reply::Done)
+            Some(Reply::Done)
         }
         Event::Burn { addr, word } => {
             board.burn(addr, word);
-            Answer::Own(Reply::Done)
+            Some(Reply::Done)
         }
         Event::Flip(at) => {
             board.flip(at);
-            Answer::Own(Reply::Done)
+            Some(Reply::Done)
         }
     }
 }

@@ -1,27 +1,29 @@
-//! Reads the configuration of a job and replays its script.
+//! Reads the configuration of a job, and does with its script what a form asks for.
 
 ghost use Rattle.std.specs.Prelude.{◌≡◌, ◌≤◌, ℕ, List, Option, [], false, OnOk, OnErr, IfOk, None, Some, vec_capacity};
-ghost use Rattle.std.specs.Io.KnownBytes.{prepend_known};
+ghost use Rattle.std.specs.Io.KnownBytes.{prepend_known, Appends};
 ghost use Rattle.mt_port.specs.Causes.{HasCause};
-ghost use Rattle.mt_port.specs.Streams.{WhereTold};
+ghost use Rattle.mt_port.specs.Streams.{WhereTold, AppendsFront};
 ghost use Rattle.mt_port.specs.Board.{Board};
 ghost use Rattle.mt_port.specs.declared.board.Touch.{Touch};
 ghost use Rattle.mt_fault.specs.declared.fault.Fault.{Fault as MemoryFault};
 ghost use Rattle.mt_replay.specs.Input.{Ending, Cut, cut, Finished, Parted, Whole};
 ghost use Rattle.mt_conf.specs.Accepted.{IsAcceptedConfig};
 ghost use Rattle.mt_replay.specs.Machine.{Machine, IsReady, started};
-ghost use Rattle.mt_replay.specs.Outcome.{ran, run_script as script_run, done, done_text, bad_config, bad_config_text, by_job, rule_number as number_of_rule, outcome};
-ghost use Rattle.mt_replay.specs.Replay.{is_run, IsAcceptedFound, FoundGives, HeadFails, Begins, EmptyGives, HasScript, IsFound, IsStart, JobGives, Replays, StatusCaused, StaysFree, Told, outcomes};
+ghost use Rattle.mt_replay.specs.Outcome.{opening_text, bad_config, bad_config_text, by_job, rule_number as number_of_rule};
+ghost use Rattle.mt_replay.specs.Run.{IsReadyFor, UsesBoard};
+ghost use Rattle.mt_replay.specs.Replay.{form_named, form_of, IsAcceptedFound, FoundGives, HeadFails, Begins, EmptyGives, HasScript, IsFound, IsStart, JobGives, Replays, StatusCaused, StaysFree, Told, outcomes};
 
+use crate::form::{Form, Task};
 use crate::head::{HEAD_ROOM, Head, read_head};
 use crate::input::Input;
+use crate::modules::Modules;
 use crate::refused::{Refused, refused_of, rule_number};
 use crate::run::{Fault, run_script};
 use crate::status::Status;
 use crate::text::{bad_config_text, done_text};
-use mt_conf::{Config, ConfigRefusal, read_config};
-use mt_port::{Bench, Failed, Shape, Sink, Source, put};
-use mt_ram::Ram;
+use mt_conf::{Config, ConfigRefusal, read_config, write_config};
+use mt_port::{Bench, Failed, Sink, Source, put};
 use mt_word::NoMemory;
 use std::alloc::Global;
 
@@ -58,7 +60,7 @@ fn found_in(alloc: Global, kept: &[u8], script: Script) -> Found
 
 // The refusal of an input without a separator.
 fn whole_refused(bytes: &[u8]) -> Refused
-    ensures { (defect : Option MemoryFault) → by_job Finished defect (Whole bytes.now) ≡ bad_config result }
+    ensures { (form : _) (defect : Option MemoryFault) → by_job form Finished defect (Whole bytes.now) ≡ bad_config result }
 {
     if bytes.len() > 65_536 {
         Refused::Rule(18)
@@ -91,17 +93,17 @@ fn find<S: Source>(
     }
 }
 
-// Powers the board up for a job. Answers the RAM test as it begins.
+// Powers the board up for a job. Answers the modules as they begin.
 #[tactic(auto, unfolding(mt_port::specs::Board::powered_up))]
-fn power_up<B: Bench>(alloc: Global, config: Config, board: &mut B) -> Result<Ram, NoMemory>
+fn power_up<B: Bench>(alloc: Global, config: Config, board: &mut B) -> Result<Modules, NoMemory>
     requires { IsAcceptedConfig config }
-    ensures ok { IfOk result (λ ram. record { board = B.state board.new; ram = ram } ≡ started config (B.defect board.old)) }
-    ensures ready { IfOk result (λ ram. IsReady config.shape (record { board = B.state board.new; ram = ram })) }
+    ensures ok { IfOk result (λ modules. record { board = B.state board.new; modules = modules } ≡ started config (B.defect board.old)) }
+    ensures ready { IfOk result (λ modules. IsReady config.shape (record { board = B.state board.new; modules = modules })) }
     ensures tape { OnOk result (B.tape board.new ≡ Some []) }
     ensures err { OnErr result ((B.state board.new ≡ B.state board.old) × (B.tape board.new ≡ B.tape board.old)) }
 {
     match board.power_up(alloc, config.shape, config.initial) {
-        Ok(()) => Ok(Ram::new(config.ram_tst, config.shape)),
+        Ok(()) => Ok(Modules::new(config)),
         Err(no_memory) => Err(no_memory),
     }
 }
@@ -129,42 +131,63 @@ fn tell_refused<K: Sink>(sink: &mut K, why: &Refused) -> Status
     )
 }
 
-// Replays an empty script.
+// Writes the configuration in canonical form, and the line that ends it.
+fn write_opening<K: Sink>(config: &Config, sink: &mut K) -> Result<(), Failed>
+    requires { IsAcceptedConfig config.now }
+    ensures ok { OnOk result (Appends (K.held sink.old) (K.held sink.new) (opening_text Form.Format config.now)) }
+    ensures err { OnErr result (AppendsFront (K.held sink.old) (K.held sink.new) (opening_text Form.Format config.now)) }
+    ensures cause { HasCause (K.faults sink.old) (K.faults sink.new) result }
+{
+    write_config(config, sink)?;
+    put(sink, b"=====\n")
+}
+
+// Does what a form asks for with an empty script.
 fn replay_empty<K: Sink, B: Bench>(
     alloc: Global,
+    form: Form,
     config: Config,
     sink: &mut K,
     board: &mut B,
 ) -> Status
     requires { IsAcceptedConfig config }
-    ensures gives { (left : Option (List ℕ)) (left' : Option (List ℕ)) → EmptyGives result config (B.defect board.old) (B.state board.old) (B.state board.new)
+    ensures gives { (left : Option (List ℕ)) (left' : Option (List ℕ)) → EmptyGives result form config (B.defect board.old) (B.state board.old) (B.state board.new)
         (record { left = left; left' = left'; held = K.held sink.old; held' = K.held sink.new; tape = B.tape board.old; tape' = B.tape board.new }) (K.faults sink.old) (K.faults sink.new) }
     ensures free { StaysFree (B.state board.old) (B.state board.new) }
 {
-    match power_up(alloc, config, board) {
-        Ok(_) => tell(sink, &done_text(0), Status::Done),
-        Err(_) => Status::NoMemory,
+    match form {
+        Form::Run => match power_up(alloc, config, board) {
+            Ok(_) => tell(sink, &done_text(0), Status::Done),
+            Err(_) => Status::NoMemory,
+        },
+        Form::Check => tell(sink, &done_text(0), Status::Done),
+        Form::Format => match write_opening(&config, sink) {
+            Ok(()) => Status::Done,
+            Err(_) => Status::WriteFault,
+        },
     }
 }
 
-// Runs the script that the source has left, on a board that is powered up.
+// Does what a form asks for with the script that the source has left. What stands before it is written.
 fn replay_lines<S: Source, K: Sink, B: Bench>(
-    shape: Shape,
-    ram: &mut Ram,
+    task: Task,
+    modules: &mut Modules,
     board: &mut B,
     input: &mut Input,
     source: &mut S,
     sink: &mut K,
 ) -> Status
-    requires ready { IsReady shape (record { board = B.state board.old; ram = ram.old }) }
-    requires tape { B.tape board.old ≡ Some [] }
-    ensures ready { IsReady shape (record { board = B.state board.new; ram = ram.new }) }
-    ensures gives { (a : Option (List ℕ)) (was : Option (List Touch)) (defect : Option MemoryFault) (before : Board) (config : Config) → IsStart shape config defect (record { board = B.state board.old; ram = ram.old })
+    requires ready { IsReadyFor task.form task.shape (record { board = B.state board.old; modules = modules.old }) }
+    ensures ready { IsReadyFor task.form task.shape (record { board = B.state board.new; modules = modules.new }) }
+    ensures board { UsesBoard task.form (B.state board.old) (B.state board.new) (B.tape board.old) (B.tape board.new) }
+    ensures gives { (a : Option (List ℕ)) (h : Option (List ℕ)) (was : Option (List Touch)) (defect : Option MemoryFault) (before : Board) (config : Config)
+        → IsStart task config defect (record { board = B.state board.old; modules = modules.old }) before was (B.tape board.old)
+        → Appends h (K.held sink.old) (opening_text task.form config)
         → WhereTold a (prepend_known input.old (S.left source.old)) (Begins config)
-        → JobGives result (outcomes defect) before (B.state board.new) (record { left = a; left' = S.left source.new; held = K.held sink.old; held' = K.held sink.new; tape = was; tape' = B.tape board.new }) }
+        → JobGives result (outcomes task.form defect) before (B.state board.new) (record { left = a; left' = S.left source.new; held = h; held' = K.held sink.new; tape = was; tape' = B.tape board.new }) }
     ensures cause { StatusCaused result (S.faults source.old) (S.faults source.new) (K.faults sink.old) (K.faults sink.new) }
 {
-    match run_script(shape, ram, board, input, source, sink) {
+    match run_script(task, modules, board, input, source, sink) {
         Ok(status) => status,
         Err(Fault::Read) => tell(sink, b"read fault\n", Status::ReadFault),
         Err(Fault::Write) => Status::WriteFault,
@@ -172,7 +195,7 @@ fn replay_lines<S: Source, K: Sink, B: Bench>(
 }
 
 // Replays the script that the source has left.
-fn replay_script<S: Source, K: Sink, B: Bench>(
+fn play_script<S: Source, K: Sink, B: Bench>(
     alloc: Global,
     config: Config,
     input: &mut Input,
@@ -181,21 +204,97 @@ fn replay_script<S: Source, K: Sink, B: Bench>(
     board: &mut B,
 ) -> Status
     requires { IsAcceptedConfig config }
-    ensures gives { (a : Option (List ℕ)) → WhereTold a (prepend_known input.old (S.left source.old)) (Begins config) → JobGives result (outcomes (B.defect board.old)) (B.state board.old) (B.state board.new)
+    ensures gives { (a : Option (List ℕ)) → WhereTold a (prepend_known input.old (S.left source.old)) (Begins config) → JobGives result (outcomes Form.Run (B.defect board.old)) (B.state board.old) (B.state board.new)
         (record { left = a; left' = S.left source.new; held = K.held sink.old; held' = K.held sink.new; tape = B.tape board.old; tape' = B.tape board.new }) }
     ensures cause { StatusCaused result (S.faults source.old) (S.faults source.new) (K.faults sink.old) (K.faults sink.new) }
     ensures free { StaysFree (B.state board.old) (B.state board.new) }
 {
-    let shape = config.shape;
+    let task = Task {
+        form: Form::Run,
+        shape: config.shape,
+    };
     match power_up(alloc, config, board) {
-        Ok(mut ram) => replay_lines(shape, &mut ram, board, input, source, sink),
+        Ok(mut modules) => replay_lines(task, &mut modules, board, input, source, sink),
         Err(_) => Status::NoMemory,
     }
 }
 
-// Replays what was found.
+// Reads the script that the source has left.
+fn check_script<S: Source, K: Sink, B: Bench>(
+    config: Config,
+    input: &mut Input,
+    source: &mut S,
+    sink: &mut K,
+    board: &mut B,
+) -> Status
+    requires { IsAcceptedConfig config }
+    ensures gives { (a : Option (List ℕ)) (defect : Option MemoryFault) → WhereTold a (prepend_known input.old (S.left source.old)) (Begins config) → JobGives result (outcomes Form.Check defect) (B.state board.old) (B.state board.new)
+        (record { left = a; left' = S.left source.new; held = K.held sink.old; held' = K.held sink.new; tape = B.tape board.old; tape' = B.tape board.new }) }
+    ensures cause { StatusCaused result (S.faults source.old) (S.faults source.new) (K.faults sink.old) (K.faults sink.new) }
+    ensures free { StaysFree (B.state board.old) (B.state board.new) }
+{
+    let task = Task {
+        form: Form::Check,
+        shape: config.shape,
+    };
+    let mut modules = Modules::new(config);
+    replay_lines(task, &mut modules, board, input, source, sink)
+}
+
+// Writes the configuration and the script that the source has left in canonical form.
+fn format_script<S: Source, K: Sink, B: Bench>(
+    config: Config,
+    input: &mut Input,
+    source: &mut S,
+    sink: &mut K,
+    board: &mut B,
+) -> Status
+    requires { IsAcceptedConfig config }
+    ensures gives { (a : Option (List ℕ)) (defect : Option MemoryFault) → WhereTold a (prepend_known input.old (S.left source.old)) (Begins config) → JobGives result (outcomes Form.Format defect) (B.state board.old) (B.state board.new)
+        (record { left = a; left' = S.left source.new; held = K.held sink.old; held' = K.held sink.new; tape = B.tape board.old; tape' = B.tape board.new }) }
+    ensures cause { StatusCaused result (S.faults source.old) (S.faults source.new) (K.faults sink.old) (K.faults sink.new) }
+    ensures free { StaysFree (B.state board.old) (B.state board.new) }
+{
+    let task = Task {
+        form: Form::Format,
+        shape: config.shape,
+    };
+    match write_opening(&config, sink) {
+        Ok(()) => {
+            let mut modules = Modules::new(config);
+            replay_lines(task, &mut modules, board, input, source, sink)
+        }
+        Err(_) => Status::WriteFault,
+    }
+}
+
+// Does what a form asks for with the script that the source has left.
+fn replay_script<S: Source, K: Sink, B: Bench>(
+    alloc: Global,
+    form: Form,
+    config: Config,
+    input: &mut Input,
+    source: &mut S,
+    sink: &mut K,
+    board: &mut B,
+) -> Status
+    requires { IsAcceptedConfig config }
+    ensures gives { (a : Option (List ℕ)) → WhereTold a (prepend_known input.old (S.left source.old)) (Begins config) → JobGives result (outcomes form (B.defect board.old)) (B.state board.old) (B.state board.new)
+        (record { left = a; left' = S.left source.new; held = K.held sink.old; held' = K.held sink.new; tape = B.tape board.old; tape' = B.tape board.new }) }
+    ensures cause { StatusCaused result (S.faults source.old) (S.faults source.new) (K.faults sink.old) (K.faults sink.new) }
+    ensures free { StaysFree (B.state board.old) (B.state board.new) }
+{
+    match form {
+        Form::Run => play_script(alloc, config, input, source, sink, board),
+        Form::Check => check_script(config, input, source, sink, board),
+        Form::Format => format_script(config, input, source, sink, board),
+    }
+}
+
+// Does what a form asks for with what was found.
 fn replay_found<S: Source, K: Sink, B: Bench>(
     alloc: Global,
+    form: Form,
     found: Found,
     input: &mut Input,
     source: &mut S,
@@ -203,7 +302,7 @@ fn replay_found<S: Source, K: Sink, B: Bench>(
     board: &mut B,
 ) -> Status
     requires { IsAcceptedFound found }
-    ensures gives { (a : Option (List ℕ)) → WhereTold a (prepend_known input.old (S.left source.old)) (FoundGives found) → JobGives result (outcomes (B.defect board.old)) (B.state board.old) (B.state board.new)
+    ensures gives { (a : Option (List ℕ)) → WhereTold a (prepend_known input.old (S.left source.old)) (FoundGives found) → JobGives result (outcomes form (B.defect board.old)) (B.state board.old) (B.state board.new)
         (record { left = a; left' = S.left source.new; held = K.held sink.old; held' = K.held sink.new; tape = B.tape board.old; tape' = B.tape board.new }) }
     ensures cause { StatusCaused result (S.faults source.old) (S.faults source.new) (K.faults sink.old) (K.faults sink.new) }
     ensures free { StaysFree (B.state board.old) (B.state board.new) }
@@ -212,20 +311,21 @@ fn replay_found<S: Source, K: Sink, B: Bench>(
         Found::NoMemory => Status::NoMemory,
         Found::Refused(why) => tell_refused(sink, &why),
         Found::Config(config, script) => match script {
-            Script::Follows => replay_script(alloc, config, input, source, sink, board),
-            Script::Empty => replay_empty(alloc, config, sink, board),
+            Script::Follows => replay_script(alloc, form, config, input, source, sink, board),
+            Script::Empty => replay_empty(alloc, form, config, sink, board),
         },
     }
 }
 
-// Replays the job that the source has left.
+// Does what a form asks for with the job that the source has left.
 fn replay_job<S: Source, K: Sink, B: Bench>(
     alloc: Global,
+    form: Form,
     source: &mut S,
     sink: &mut K,
     board: &mut B,
 ) -> Status
-    ensures gives { JobGives result (outcomes (B.defect board.old)) (B.state board.old) (B.state board.new)
+    ensures gives { JobGives result (outcomes form (B.defect board.old)) (B.state board.old) (B.state board.new)
         (record { left = S.left source.old; left' = S.left source.new; held = K.held sink.old; held' = K.held sink.new; tape = B.tape board.old; tape' = B.tape board.new }) }
     ensures cause { StatusCaused result (S.faults source.old) (S.faults source.new) (K.faults sink.old) (K.faults sink.new) }
     ensures free { StaysFree (B.state board.old) (B.state board.new) }
@@ -235,22 +335,40 @@ fn replay_job<S: Source, K: Sink, B: Bench>(
     };
     let mut input = Input::new();
     match find(alloc, &mut input, source, &mut kept) {
-        Ok(found) => replay_found(alloc, found, &mut input, source, sink, board),
+        Ok(found) => replay_found(alloc, form, found, &mut input, source, sink, board),
         Err(_) => tell(sink, b"read fault\n", Status::ReadFault),
     }
 }
 
-fn is_run(words: &[String]) -> bool
-    ensures { result ≡ is_run words.now }
+// The form that a word asks for.
+fn form_named(word: &[u8]) -> Option<Form>
+    ensures { result ≡ form_named word.now }
+{
+    if word == b"run".as_slice() {
+        return Some(Form::Run);
+    }
+    if word == b"check".as_slice() {
+        return Some(Form::Check);
+    }
+    if word == b"fmt".as_slice() {
+        return Some(Form::Format);
+    }
+    None
+}
+
+fn form_of(words: &[String]) -> Option<Form>
+    ensures { result ≡ form_of words.now }
 {
     match words {
-        [word] => word.as_bytes() == b"run".as_slice(),
-        _ => false,
+        [word] => form_named(word.as_bytes()),
+        _ => None,
     }
 }
 
 /// Does what the words after the program's name ask for: `run` reads a job from the source, replays it on the board and
-/// writes its trace to the sink. All other words answer `Usage`.
+/// writes its trace to the sink; `check` reads a job and writes the closing line alone; `fmt` reads a job and writes it
+/// in canonical form, without a closing line. All other words answer `Usage`. Memory is taken before the first byte is
+/// written.
 pub fn replay<S: Source, K: Sink, B: Bench>(
     alloc: Global,
     words: &[String],
@@ -258,14 +376,13 @@ pub fn replay<S: Source, K: Sink, B: Bench>(
     sink: &mut K,
     board: &mut B,
 ) -> Status
-    ensures gives { Replays (is_run words.now) result (outcomes (B.defect board.old)) (B.state board.old) (B.state board.new)
+    ensures gives { Replays (form_of words.now) result (B.defect board.old) (B.state board.old) (B.state board.new)
         (record { left = S.left source.old; left' = S.left source.new; held = K.held sink.old; held' = K.held sink.new; tape = B.tape board.old; tape' = B.tape board.new }) (K.faults sink.old) (K.faults sink.new) }
     ensures cause { StatusCaused result (S.faults source.old) (S.faults source.new) (K.faults sink.old) (K.faults sink.new) }
     ensures free { StaysFree (B.state board.old) (B.state board.new) }
 {
-    if is_run(words) {
-        replay_job(alloc, source, sink, board)
-    } else {
-        tell(sink, b"usage\n", Status::Usage)
+    match form_of(words) {
+        Some(form) => replay_job(alloc, form, source, sink, board),
+        None => tell(sink, b"usage\n", Status::Usage),
     }
 }

@@ -1,19 +1,23 @@
-//! Replays a job: bytes in, bytes out.
+//! Replays, checks and formats a job: bytes in, bytes out.
 #![tactic(auto)]
 
 mod event;
+mod form;
 mod head;
 mod input;
 mod job;
+mod modules;
 mod refused;
 mod run;
 mod status;
 mod text;
 
-pub use event::{Answer, Running};
+pub use event::{FlsRunning, Running};
+pub use form::{Form, Task};
 pub use head::Head;
 pub use input::{Input, Line, LineText};
 pub use job::{Found, Script, replay};
+pub use modules::Modules;
 pub use refused::{Refused, refused_of, rule_number};
 pub use run::{Fault, Turn};
 pub use status::{Status, exit_number};
