@@ -10,3 +10,4 @@ pub mod Sets
 pub mod FlashBlocks
 pub mod Taken
 pub mod Parts
+pub mod Example
