@@ -9,3 +9,5 @@ pub mod Apart
 pub mod Sets
 pub mod FlashBlocks
 pub mod Taken
+pub mod Parts
+pub mod Example

@@ -1,4 +1,4 @@
-//! Reads the configuration of a job from TOML text.
+//! The configuration of a job: it is read from TOML text, and written as such.
 #![tactic(auto)]
 
 mod config;
@@ -10,10 +10,12 @@ mod reading;
 mod shape;
 mod value;
 mod values;
+mod writing;
 
 pub use config::{Config, ConfigRefusal};
 pub use laws::{accepted_is_taken, marches_are_read, refusal_is_least};
 pub use reading::read_config;
+pub use writing::write_config;
 
 #[cfg(test)]
 mod tests;

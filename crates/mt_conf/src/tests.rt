@@ -1,9 +1,14 @@
+ghost use Rattle.std.specs.Prelude.{IfOk};
+ghost use Rattle.mt_conf.specs.Accepted.{IsAcceptedConfig};
+
 use super::*;
 use mt_blocks::Block;
 use mt_march::MarchKind;
 use mt_plan::{Algorithm, Policy};
+use mt_port::{Failed, MemSink};
 use mt_word::Width;
 use std::alloc::{AllocError, Global};
+use std::test::Fail;
 
 const TOP: &str = "version = 1\nwidth = 8\nram = 10\n";
 
@@ -29,6 +34,73 @@ const FLASH: &str = "version = 1\nwidth = 8\nram = 10\nflash = 4\n";
 
 const FLS: &str = "[fls]\natomic = 1\ncells = 1\ninterval_end = 0\n";
 
+const PLAIN_WRITTEN: &str = "version = 1
+width = 8
+ram = 10
+flash = 0
+initial = \"00\"
+
+[[set]]
+algorithm = \"march\"
+march = \"{*(w0); u(r0,w1); u(r1,w0); d(r0,w1); d(r1,w0); *(r0)}\"
+background = \"00\"
+atomic = 4
+cells = 8
+
+[[set.block]]
+first = 0
+last = 9
+policy = \"non-destructive\"
+fill = \"00\"
+
+[fls]
+atomic = 1
+cells = 1
+interval_end = 0
+";
+
+const WIDE: &str = "version = 1\nwidth = 16\nram = 10\nflash = 4\ninitial = \"0AfF\"\n";
+
+const FILLED: &str =
+    "background = \"ABCD\"\n[[set.block]]\nlast = 4\nfirst = 2\npolicy = \"destructive\"\nfill = \"00E0\"\n";
+
+const COPIES: &str =
+    "[fls]\ncells = 3\natomic = 2\ninterval_end = 65535\n[[fls.fgnd]]\nfirst = 2\nlast = 3\ncopy = 0\n[[fls.bgnd]]\nfirst = 0\nlast = 0\ncopy = 3\n";
+
+const WIDE_WRITTEN: &str = "version = 1
+width = 16
+ram = 10
+flash = 4
+initial = \"0aff\"
+
+[[set]]
+algorithm = \"galpat\"
+background = \"abcd\"
+atomic = 4
+cells = 8
+
+[[set.block]]
+first = 2
+last = 4
+policy = \"destructive\"
+fill = \"00e0\"
+
+[fls]
+atomic = 2
+cells = 3
+interval_end = 65535
+
+[[fls.bgnd]]
+first = 0
+last = 0
+copy = 3
+
+[[fls.fgnd]]
+first = 2
+last = 3
+copy = 0
+";
+
 /// Pieces of text, one after another.
 fn joined(alloc: Global, pieces: &[&str]) -> Result<Vec<u8>, AllocError> {
     let mut text = Vec::new(alloc);
@@ -39,7 +111,9 @@ fn joined(alloc: Global, pieces: &[&str]) -> Result<Vec<u8>, AllocError> {
 }
 
 /// How a text of pieces is read; a text that is too long is told as no memory.
-fn read(alloc: Global, pieces: &[&str]) -> Result<Config, ConfigRefusal> {
+fn read(alloc: Global, pieces: &[&str]) -> Result<Config, ConfigRefusal>
+    ensures { IfOk result IsAcceptedConfig }
+{
     match joined(alloc, pieces) {
         Ok(text) if text.len() <= 65_536 => read_config(alloc, text.as_slice()),
         _ => Err(ConfigRefusal::NoMemory),
@@ -341,4 +415,34 @@ fn values_and_defaults(rt: HostRuntime) {
         };
         assert_eq!(rt; set.blocks.as_slice(), [block].as_slice());
     }
+}
+
+// What is written is read again, and written as it stands. A sink that is too small holds a front of it.
+#[test]
+fn canonical_text(rt: HostRuntime) -> Result<(), Fail> {
+    let alloc = rt.alloc();
+    let table = [
+        (PLAIN_WRITTEN, [TOP, SET, BLOCK, ""]),
+        (PLAIN_WRITTEN, [PLAIN_WRITTEN, "", "", ""]),
+        (WIDE_WRITTEN, [WIDE, GALPAT, FILLED, COPIES]),
+        (WIDE_WRITTEN, [WIDE_WRITTEN, "", "", ""]),
+    ];
+    for (expected, pieces) in table {
+        let Ok(config) = read(alloc, &pieces) else {
+            return Err(Fail::new("refused"));
+        };
+        for room in [1000, 100] {
+            let mut sink = MemSink::new(alloc, room, Vec::new(alloc))
+                .ok()
+                .ok_or("memory")?;
+            let fits = expected.len() <= room;
+            assert_eq!(rt;
+                write_config(&config, &mut sink),
+                if fits { Ok(()) } else { Err(Failed) }
+            );
+            assert_eq!(rt; sink.bytes().len(), expected.len().min(room));
+            assert!(rt; expected.as_bytes().starts_with(sink.bytes()));
+        }
+    }
+    Ok(())
 }

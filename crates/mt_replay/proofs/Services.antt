@@ -9,18 +9,24 @@ use Rattle.mt_port.specs.declared.board.Shape.{Shape}
 use Rattle.mt_port.specs.declared.request.Request.{Request}
 use Rattle.mt_port.specs.declared.request.HandlerOp.{HandlerOp}
 use Rattle.mt_port.specs.declared.request.HandlerOp.TheVariants as op
-use Rattle.mt_port.specs.declared.request.Module.TheVariants.{RamTst as Itself}
+use Rattle.mt_port.specs.declared.request.Module.{Module}
 use Rattle.mt_port.specs.Board.{Board, IsSoundInHandler, AreSoundRequests}
 use Rattle.mt_text.specs.Accepted.{IsFor, IsRequest, AreFor}
 use Rattle.mt_window.specs.Serving.{IsSoundHandlerOp, cost, IsReady}
+use Rattle.mt_blocks.specs.Slices.{Piece}
 use Rattle.mt_ram.specs.declared.state.State.{State}
 use Rattle.mt_ram.specs.declared.state.State.TheVariants.{Uninit, Stopped, Running, Suspended, Full, Partial}
 use Rattle.mt_ram.specs.State.{RamTst}
 use Rattle.mt_window.specs.declared.reply.Reply.{Reply}
 use Rattle.mt_window.specs.declared.log.Entry.{Entry}
 use Rattle.mt_window.specs.declared.log.Entry.TheVariants.{Own}
-use Rattle.mt_replay.specs.Machine.{Machine, Step, called}
-use Rattle.mt_ram.specs.Table.{Service, reply_to, GetTestResultPerBlock, GetTestResult, GetAlgParams, GetTestAlgorithm, GetNumberOfTestedCells, Answers, Refuses, cell, telling, next_in, after}
+use Rattle.mt_replay.specs.Machine.{Machine, Step, with_ram, with_fls, called, fls_called}
+use Rattle.mt_fls.specs.declared.state.State as fls
+use Rattle.mt_fls.specs.declared.state.State.TheVariants as fls_state
+use Rattle.mt_fls.specs.State.{FlsTst}
+use Rattle.mt_fls.specs.Table as fls_table
+use Rattle.mt_window.specs.Rows.{Answers, Refuses, next_in}
+use Rattle.mt_ram.specs.Table.{Service, reply_to, GetTestResultPerBlock, GetTestResult, GetAlgParams, GetTestAlgorithm, GetNumberOfTestedCells, cell, telling, after}
 
 pub stays_result : (r : RamTst) → after r GetTestResult ≡ r
 stays_result r = of r.state
@@ -69,7 +75,7 @@ stays_cells r = of r.state
 stays_telling : (r : RamTst) (block : ℕ) → next_in (telling r block) r ≡ r
 stays_telling r block = of (nat_lt block (length r.results))
   where
-    of : (inside : Bool) → next_in (cond inside (Answers (Result (slice_index_or r.results block NotTested))) (Refuses Range)) r ≡ r
+    of : (inside : Bool) → next_in {X = Piece} (cond inside (Answers (Result (slice_index_or r.results block NotTested))) (Refuses Range)) r ≡ r
     of true = refl
     of false = refl
 
@@ -84,38 +90,68 @@ stays_per_block r block = of r.state
     of Full = stays_telling r block
     of (Partial back) = stays_telling r block
 
+-- the same of FlsTst
+pub stays_bgnd : (f : FlsTst) → fls_table.after f fls_table.GetTestResultBgnd ≡ f
+stays_bgnd f = of f.state
+  where
+    of : (state : fls.State) → next_in (fls_table.cell f fls_table.GetTestResultBgnd state) f ≡ f
+    of fls_state.Uninit = refl
+    of _ = refl
+
+pub stays_fgnd : (f : FlsTst) → fls_table.after f fls_table.GetTestResultFgnd ≡ f
+stays_fgnd f = of f.state
+  where
+    of : (state : fls.State) → next_in (fls_table.cell f fls_table.GetTestResultFgnd state) f ≡ f
+    of fls_state.Uninit = refl
+    of _ = refl
+
+pub stays_details : (f : FlsTst) → fls_table.after f fls_table.GetErrorDetails ≡ f
+stays_details f = of f.state
+  where
+    of : (state : fls.State) → next_in (fls_table.cell f fls_table.GetErrorDetails state) f ≡ f
+    of fls_state.Uninit = refl
+    of _ = refl
+
 -- ---- requests
 
-sound_op : (shape : Shape) (o : HandlerOp) → IsSoundInHandler shape o → IsFor Itself o → IsSoundHandlerOp shape Itself o
-sound_op shape (op.App o) sound for = sound
-sound_op shape (op.Call call) sound for = for.0
+sound_op : (module : Module) (shape : Shape) (o : HandlerOp) → IsSoundInHandler shape o → IsFor module o → IsSoundHandlerOp shape module o
+sound_op module shape (op.App o) sound for = sound
+sound_op module shape (op.Call call) sound for = for.0
 
-sound_ops : (shape : Shape) (ops : List HandlerOp) → All (IsSoundInHandler shape) ops → All (IsFor Itself) ops → All (IsSoundHandlerOp shape Itself) ops
-sound_ops shape ops sound for = λ k d h. sound_op shape (get_or ops k d) (sound k d h) (for k d h)
+sound_ops : (module : Module) (shape : Shape) (ops : List HandlerOp) → All (IsSoundInHandler shape) ops → All (IsFor module) ops → All (IsSoundHandlerOp shape module) ops
+sound_ops module shape ops sound for = λ k d h. sound_op module shape (get_or ops k d) (sound k d h) (for k d h)
 
-sound_requests : (shape : Shape) (rs : List Request) → All (λ (r : Request). All (IsSoundInHandler shape) r.ops.items) rs → All (IsRequest Itself) rs → All (λ (r : Request). All (IsSoundHandlerOp shape Itself) r.ops.items) rs
-sound_requests shape rs sound for = λ k d h. sound_ops shape ((get_or rs k d).ops.items) (sound k d h) ((for k d h).calls)
+sound_requests : (module : Module) (shape : Shape) (rs : List Request) → All (λ (r : Request). All (IsSoundInHandler shape) r.ops.items) rs → All (IsRequest module) rs → All (λ (r : Request). All (IsSoundHandlerOp shape module) r.ops.items) rs
+sound_requests module shape rs sound for = λ k d h. sound_ops module shape ((get_or rs k d).ops.items) (sound k d h) ((for k d h).calls)
 
-cost_few : (rs : List Request) → All (IsRequest Itself) rs → cost rs ≤ 9 * length rs
-cost_few [] for = omega arith
-cost_few (r ∷ rs) for = omega (arith, (All-head (IsRequest Itself) r rs for).few, cost_few rs (All-tail (IsRequest Itself) r rs for))
+cost_few : (module : Module) (rs : List Request) → All (IsRequest module) rs → cost rs ≤ 9 * length rs
+cost_few module [] for = omega arith
+cost_few module (r ∷ rs) for = omega (arith, (All-head (IsRequest module) r rs for).few, cost_few module rs (All-tail (IsRequest module) r rs for))
 
 -- an event that begins with the requests of a line can serve them
-pub ready_to_serve : (b : Board) (requests : List Request) → b.held ≡ false → b.left ≡ requests → AreSoundRequests b.shape requests → AreFor (Some Itself) requests → IsReady Itself b []
-ready_to_serve b requests free left sound for =
+pub ready_to_serve : (module : Module) (b : Board) (requests : List Request) → b.held ≡ false → b.left ≡ requests → AreSoundRequests b.shape requests → AreFor (Some module) requests → IsReady module b []
+ready_to_serve module b requests free left sound for =
     rw left record {
       free = free;
-      room = omega (arith, sound.few, cost_few requests for);
-      sound = sound_requests b.shape requests sound.sound for;
+      room = omega (arith, sound.few, cost_few module requests for);
+      sound = sound_requests module b.shape requests sound.sound for;
       ordered = sound.ordered;
     }
 
 -- ---- a service that is answered at once
 
-pub does_call : (m : Machine) (ram : RamTst) (service : Service) (reply : Reply) (log : List Entry) → reply ≡ reply_to m.ram service → ram ≡ after m.ram service → log ≡ []
-    → called m service ≡ record { after = record { board = m.board; ram = ram }; entries = log ++ Own reply ∷ []; touches = [] }
+pub does_call : (m : Machine) (ram : RamTst) (service : Service) (reply : Reply) (log : List Entry) → reply ≡ reply_to m.modules.ram service → ram ≡ after m.modules.ram service → log ≡ []
+    → called m service ≡ record { after = with_ram m.modules m.board ram; entries = log ++ Own reply ∷ []; touches = []; attempts = [] }
 does_call m ram service reply log told next none =
-    let step : RamTst → List Entry → Step = λ r entries. record { after = record { board = m.board; ram = r }; entries = entries; touches = [] } in
-    ap (λ (r : RamTst). step r (Own (reply_to m.ram service) ∷ [])) (sym next)
+    let step : RamTst → List Entry → Step = λ r entries. record { after = with_ram m.modules m.board r; entries = entries; touches = []; attempts = [] } in
+    ap (λ (r : RamTst). step r (Own (reply_to m.modules.ram service) ∷ [])) (sym next)
     ∙ ap (λ (x : Reply). step ram (Own x ∷ [])) (sym told)
     ∙ ap (λ (l : List Entry). step ram (l ++ Own reply ∷ [])) (sym none)
+
+pub does_call_fls : (m : Machine) (f : FlsTst) (service : fls_table.Service) (reply : Reply) (log : List Entry) → reply ≡ fls_table.reply_to m.modules.fls service → f ≡ fls_table.after m.modules.fls service → log ≡ []
+    → fls_called m service ≡ record { after = with_fls m.modules m.board f; entries = log ++ Own reply ∷ []; touches = []; attempts = [] }
+does_call_fls m f service reply log told next none =
+    let step : FlsTst → List Entry → Step = λ r entries. record { after = with_fls m.modules m.board r; entries = entries; touches = []; attempts = [] } in
+    ap (λ (r : FlsTst). step r (Own (fls_table.reply_to m.modules.fls service) ∷ [])) (sym next)
+    ∙ ap (λ (x : Reply). step f (Own x ∷ [])) (sym told)
+    ∙ ap (λ (l : List Entry). step f (l ++ Own reply ∷ [])) (sym none)

@@ -7,14 +7,16 @@ use Rattle.mt_text.specs.Lines.{line_of}
 use Rattle.mt_text.specs.Trace.{entries_text}
 use Rattle.mt_window.specs.declared.log.Entry.{Entry}
 use Rattle.mt_port.proofs.StreamLemmas.{Appends-trans}
-use Rattle.mt_port.specs.declared.board.Shape.{Shape}
+use Rattle.mt_replay.specs.declared.form.Task.{Task}
 use Rattle.mt_replay.specs.declared.run.Fault.{Fault}
 use Rattle.mt_replay.specs.declared.run.Fault.TheVariants as fault
 use Rattle.mt_replay.specs.declared.run.Turn.{Turn}
 use Rattle.mt_replay.specs.declared.run.Turn.TheVariants as turn
 use Rattle.mt_replay.specs.declared.status.Status.TheVariants as status
 use Rattle.mt_replay.specs.Machine.{Machine, Step, step}
-use Rattle.mt_replay.specs.Outcome.{Run, preceded, stepped, answered, judged}
+use Rattle.mt_replay.specs.Outcome.{Run, Reaction, preceded, played, stepped, answered, judged}
+use Rattle.mt_port.specs.Board.{Logs}
+use Rattle.mt_port.specs.declared.board.Shape.{Shape}
 use Rattle.mt_replay.specs.Events.{Steps}
 use Rattle.std.specs.Prelude.{OnOk, OnErr, IfOk}
 use Rattle.std.specs.Io.KnownBytes.{Appends}
@@ -46,44 +48,46 @@ refused_line (Ok (turn.Ended how)) judge run m' x same other p = record {
 refused_line (Err fault.Read) judge run m' x same other p = absurd p
 refused_line (Err fault.Write) judge run m' x same other p = record { text = p.text; written = p.written; run = λ follow. (p.more, ap (λ (r : Run). r.text) (same follow) ∙ p.is) }
 
--- a line that is answered with some entries
-pub answered_line : (c : Shape) (m m' : Machine) (number : ℕ) (line : Line) (entries : List Entry) (x : Change) → Steps m m' line entries x.tape x.tape'
-    → (text : List ℕ) → entries_text c.width number entries ≡ text → Rattle.std.specs.Io.KnownBytes.Appends x.held x.held' text
-    → Answered (stepped c m number (step m line)) m' x
-answered_line c m m' number line entries x s text e written = record {
+-- a line that is answered with a text
+pub reacted_line : (reaction : Reaction) (m' : Machine) (x : Change) (text : List ℕ) → reaction.text ≡ text → reaction.after ≡ m' → Logs x.tape x.tape' reaction.touches → Appends x.held x.held' text
+    → Answered (stepped reaction) m' x
+reacted_line reaction m' x text e after taped written = record {
   text = text;
-  touches = s.touches;
+  touches = reaction.touches;
   written = written;
-  taped = s.taped;
-  run = λ follow. ap (λ (o : Option Step). stepped c m number o follow) s.step ∙ ap (λ (t : List ℕ). preceded t s.touches (follow m')) e;
+  taped = taped;
+  run = λ follow. ap (λ (t : List ℕ). preceded t reaction.touches (follow reaction.after)) e ∙ ap (λ (m : Machine). preceded text reaction.touches (follow m)) after;
 }
 
--- a line whose entries could not be written in full
-pub fronted_line : (c : Shape) (m m' : Machine) (number : ℕ) (line : Line) (entries : List Entry) (x : Change) → Steps m m' line entries x.tape x.tape'
-    → Rattle.mt_port.specs.Streams.AppendsFront x.held x.held' (entries_text c.width number entries)
-    → CutOff (stepped c m number (step m line)) x
-fronted_line c m m' number line entries x s written = record {
-  text = entries_text c.width number entries;
-  written = written;
-  run = λ follow. ((follow m').text, ap (λ (o : Option Step). (stepped c m number o follow).text) s.step);
-}
-
--- a line whose entries were written, or could not be in full
-pub written_line : (r : Result Turn Fault) (c : Shape) (m m' : Machine) (number : ℕ) (line : Line) (entries : List Entry) (x : Change) → Steps m m' line entries x.tape x.tape'
-    → OnOk r (Appends x.held x.held' (entries_text c.width number entries)) → OnErr r (AppendsFront x.held x.held' (entries_text c.width number entries))
-    → IfOk r (λ given. given ≡ turn.More) → (sink sink' : ℕ) → SinkCaused r sink sink' → LineGives r (stepped c m number (step m line)) m' x
-written_line (Ok turn.More) c m m' number line entries x s ok err same sink sink' cause = answered_line c m m' number line entries x s _ refl ok
-written_line (Ok (turn.Ended how)) c m m' number line entries x s ok err same sink sink' cause = absurd (ended how same)
+-- a line whose text was written, or could not be in full
+pub written_line : (r : Result Turn Fault) (reaction : Reaction) (m' : Machine) (x : Change) → reaction.after ≡ m' → Logs x.tape x.tape' reaction.touches
+    → OnOk r (Appends x.held x.held' reaction.text) → OnErr r (AppendsFront x.held x.held' reaction.text)
+    → IfOk r (λ given. given ≡ turn.More) → (sink sink' : ℕ) → SinkCaused r sink sink' → LineGives r (stepped reaction) m' x
+written_line (Ok turn.More) reaction m' x after taped ok err same sink sink' cause = reacted_line reaction m' x _ refl after taped ok
+written_line (Ok (turn.Ended how)) reaction m' x after taped ok err same sink sink' cause = absurd (ended how same)
   where
     ended : (how : Status) → turn.Ended how ≡ turn.More → ⊥
     ended how e = cc
-written_line (Err fault.Read) c m m' number line entries x s ok err same sink sink' cause = absurd cause
-written_line (Err fault.Write) c m m' number line entries x s ok err same sink sink' cause = fronted_line c m m' number line entries x s err
+written_line (Err fault.Read) reaction m' x after taped ok err same sink sink' cause = absurd cause
+written_line (Err fault.Write) reaction m' x after taped ok err same sink sink' cause = record {
+  text = reaction.text;
+  written = err;
+  run = λ follow. ((follow reaction.after).text, refl);
+}
+
+-- a step of a replay, as its reaction
+pub played_line : (r : Result Turn Fault) (shape : Shape) (m m' : Machine) (number : ℕ) (line : Line) (entries : List Entry) (x : Change) → Steps m m' line entries x.tape x.tape'
+    → OnOk r (Appends x.held x.held' (entries_text shape.width number entries)) → OnErr r (AppendsFront x.held x.held' (entries_text shape.width number entries))
+    → IfOk r (λ given. given ≡ turn.More) → (sink sink' : ℕ) → SinkCaused r sink sink' → LineGives r (stepped (played shape number (step m line))) m' x
+played_line r shape m m' number line entries x s ok err same sink sink' cause =
+    LineGives-same r (stepped (played shape number (record { after = m'; entries = entries; touches = s.touches; attempts = s.attempts }))) _ m' x
+    (λ follow. ap (λ (o : Step). stepped (played shape number o) follow) s.step)
+    (written_line r (played shape number (record { after = m'; entries = entries; touches = s.touches; attempts = s.attempts })) m' x refl s.taped ok err same sink sink' cause)
 
 -- a line of a number and a length that may be
-pub judged-is : (c : Shape) (m : Machine) (number : ℕ) (line : List ℕ) (follow : Machine → Run) → number ≤ 1000000 → length line ≤ 1024
-    → judged c m number line follow ≡ answered c m number (line_of c line) follow
-judged-is c m number line follow few short =
+pub judged-is : (task : Task) (m : Machine) (number : ℕ) (line : List ℕ) (follow : Machine → Run) → number ≤ 1000000 → length line ≤ 1024
+    → judged task m number line follow ≡ answered task m number (line_of task.shape line) follow
+judged-is task m number line follow few short =
     let one : nat_lt 1000000 number ≡ false = le-ltb _ _ few in
     let two : nat_lt 1024 (length line) ≡ false = le-ltb _ _ short in
     rw (one, two) refl

@@ -26,7 +26,7 @@ pub use laws::{
 pub use line::{Event, FlsCall, Line, LineKind, LineRefusal, RamCall};
 pub use line_text::write_line;
 pub use reading::read_line;
-pub use text::{push_bytes, push_number};
+pub use text::{push_bytes, push_number, push_word};
 
 #[cfg(test)]
 mod tests;

@@ -1,6 +1,6 @@
 use Rattle.std.proofs.Common.{◌∙◌, ap, sym, subst, List}
 use Rattle.mt_port.specs.declared.board.Shape.{Shape}
-use Rattle.mt_port.specs.declared.request.Module.TheVariants.{RamTst as Itself}
+use Rattle.mt_port.specs.declared.request.Module.TheVariants.{RamTst}
 use Rattle.mt_port.specs.Board.{Board, AreSoundRequests}
 use Rattle.mt_window.specs.declared.log.Entry.{Entry}
 use Rattle.mt_window.specs.Serving.{IsReady as IsReadyToServe}
@@ -13,5 +13,5 @@ make-reply-requires-clause-ready g c =
     let board = g.B.Port.state c.begin_event.new.self in
     let requests = c.args.requests.items in
     let sound = subst (λ (s : Shape). AreSoundRequests s requests) (sym (ap (λ (b : Board). b.shape) state)) c.requires.requests.sound in
-    subst (λ (l : List Entry). IsReadyToServe Itself board l) (sym c.requires.empty)
-    (ready_to_serve board requests (ap (λ (b : Board). b.held) state ∙ c.requires.ready.free) (ap (λ (b : Board). b.left) state) sound c.requires.requests.callees)
+    subst (λ (l : List Entry). IsReadyToServe RamTst board l) (sym c.requires.empty)
+    (ready_to_serve RamTst board requests (ap (λ (b : Board). b.held) state ∙ c.requires.ready.free) (ap (λ (b : Board). b.left) state) sound c.requires.requests.callees)

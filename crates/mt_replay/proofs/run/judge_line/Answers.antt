@@ -8,13 +8,13 @@ use Rattle.mt_replay.proofs.run.judge_line.Goals as goal
 
 pub returns-in-Ok-clause-gives : goal.returns-in-Ok-clause-gives
 returns-in-Ok-clause-gives g c =
-    LineGives-same c.answer_line.result _ _ _ _ (λ follow. judged-is _ _ _ _ follow c.requires.few c.requires.short ∙ ap (λ (r : Result Line LineRefusal). answered c.args.shape (record { board = g.B.Port.state c.args.board.now; ram = c.args.ram.now }) c.args.number r follow) c.in-Ok.ensures.value) c.answer_line.ensures.gives
+    LineGives-same c.answer_line.result _ _ _ _ (λ follow. judged-is _ _ _ _ follow c.requires.few c.requires.short ∙ ap (λ (r : Result Line LineRefusal). answered c.args.task (record { board = g.B.Port.state c.args.board.now; modules = c.args.modules.now }) c.args.number r follow) c.in-Ok.ensures.value) c.answer_line.ensures.gives
 
 pub returns-in-Err-clause-gives : goal.returns-in-Err-clause-gives
 returns-in-Err-clause-gives g c =
-    let m : Machine = record { board = g.B.Port.state c.args.board.now; ram = c.args.ram.now } in
+    let m : Machine = record { board = g.B.Port.state c.args.board.now; modules = c.args.modules.now } in
     refused_line c.refuse_turn.result _ (refused m c.args.number c.kind_number.result c.in-Err.refusal.place) m _
     (λ follow. judged-is _ _ _ _ follow c.requires.few c.requires.short
-    ∙ ap (λ (r : Result Line LineRefusal). answered c.args.shape m c.args.number r follow) c.in-Err.ensures.value
+    ∙ ap (λ (r : Result Line LineRefusal). answered c.args.task m c.args.number r follow) c.in-Err.ensures.value
     ∙ ap (λ (k : ℕ). refused m c.args.number k c.in-Err.refusal.place) (sym c.kind_number.ensures))
     (λ e. cc) (c.refuse_turn.ensures.gives m _)

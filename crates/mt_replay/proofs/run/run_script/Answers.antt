@@ -16,7 +16,7 @@ loop-number-init g c = record {
 
 pub returns-in-Ok-Ended-clause-gives : goal.returns-in-Ok-Ended-clause-gives
 returns-in-Ok-Ended-clause-gives g c =
-    turn_ends (Ok (turn.Ended c.in-Ok-Ended.status)) (Ok c.in-Ok-Ended.status) _ _ _ (record { board = g.B.Port.state c.run_line.new.board; ram = c.run_line.new.ram }) 1 _ _ _ _ _ _ _ _ _ _ refl c.loop-number.invariant.goes (rw c.in-Ok-Ended.field-0-is at c.in-Ok-Ended.ensures.gives)
+    turn_ends (Ok (turn.Ended c.in-Ok-Ended.status)) (Ok c.in-Ok-Ended.status) _ _ _ (record { board = g.B.Port.state c.run_line.new.board; modules = c.run_line.new.modules }) 1 _ _ _ _ _ _ _ _ _ _ refl c.loop-number.invariant.goes (rw c.in-Ok-Ended.field-0-is at c.in-Ok-Ended.ensures.gives)
 
 pub returns-in-Err-clause-gives : goal.returns-in-Err-clause-gives
 returns-in-Err-clause-gives g c =
@@ -34,20 +34,20 @@ loop-number-preserved g c =
 
 pub returns-in-Ok-Ended-run_past-clause-gives : goal.returns-in-Ok-Ended-run_past-clause-gives
 returns-in-Ok-Ended-run_past-clause-gives g c =
-    let m : Machine = record { board = g.B.Port.state c.loop-number.board; ram = c.loop-number.ram } in
-    let config = c.args.shape in
-    let first : Machine = record { board = g.B.Port.state c.args.board.now; ram = c.args.ram.now } in
+    let m : Machine = record { board = g.B.Port.state c.loop-number.board; modules = c.loop-number.modules } in
+    let task = c.args.task in
+    let first : Machine = record { board = g.B.Port.state c.args.board.now; modules = c.args.modules.now } in
     let last : c.loop-number.number ≡ 1000001 = omega arith in
     let change_now = change (prepend_known c.args.input.now (g.S.Source.left c.args.source.now)) (prepend_known c.loop-number.input (g.S.Source.left c.loop-number.source)) (g.K.Sink.held c.args.sink.now) (g.K.Sink.held c.loop-number.sink) (g.B.Port.tape c.args.board.now) (g.B.Port.tape c.loop-number.board) in
-    turn_ends (Ok (turn.Ended c.in-Ok-Ended-run_past.status)) (Ok c.in-Ok-Ended-run_past.status) config first m m 1 1000001 _ _ _ _ _ _ _ _ _ refl
-    (subst (λ (n : ℕ). Goes config first m 1 n change_now) last c.loop-number.invariant.goes) (rw c.in-Ok-Ended-run_past.field-0-is at (c.in-Ok-Ended-run_past.ensures.gives config m (g.B.Port.tape c.loop-number.board)))
+    turn_ends (Ok (turn.Ended c.in-Ok-Ended-run_past.status)) (Ok c.in-Ok-Ended-run_past.status) task first m m 1 1000001 _ _ _ _ _ _ _ _ _ refl
+    (subst (λ (n : ℕ). Goes task first m 1 n change_now) last c.loop-number.invariant.goes) (rw c.in-Ok-Ended-run_past.field-0-is at (c.in-Ok-Ended-run_past.ensures.gives m (g.B.Port.tape c.loop-number.board)))
 
 pub returns-in-Err-run_past-clause-gives : goal.returns-in-Err-run_past-clause-gives
 returns-in-Err-run_past-clause-gives g c =
-    let m : Machine = record { board = g.B.Port.state c.loop-number.board; ram = c.loop-number.ram } in
-    let config = c.args.shape in
-    let first : Machine = record { board = g.B.Port.state c.args.board.now; ram = c.args.ram.now } in
+    let m : Machine = record { board = g.B.Port.state c.loop-number.board; modules = c.loop-number.modules } in
+    let task = c.args.task in
+    let first : Machine = record { board = g.B.Port.state c.args.board.now; modules = c.args.modules.now } in
     let last : c.loop-number.number ≡ 1000001 = omega arith in
     let change_now = change (prepend_known c.args.input.now (g.S.Source.left c.args.source.now)) (prepend_known c.loop-number.input (g.S.Source.left c.loop-number.source)) (g.K.Sink.held c.args.sink.now) (g.K.Sink.held c.loop-number.sink) (g.B.Port.tape c.args.board.now) (g.B.Port.tape c.loop-number.board) in
-    turn_ends (Err c.in-Err-run_past.fault) (Err c.in-Err-run_past.fault) config first m m 1 1000001 _ _ _ _ _ _ _ _ _ refl
-    (subst (λ (n : ℕ). Goes config first m 1 n change_now) last c.loop-number.invariant.goes) (c.in-Err-run_past.ensures.gives config m (g.B.Port.tape c.loop-number.board))
+    turn_ends (Err c.in-Err-run_past.fault) (Err c.in-Err-run_past.fault) task first m m 1 1000001 _ _ _ _ _ _ _ _ _ refl
+    (subst (λ (n : ℕ). Goes task first m 1 n change_now) last c.loop-number.invariant.goes) (c.in-Err-run_past.ensures.gives m (g.B.Port.tape c.loop-number.board))

@@ -1,0 +1,18 @@
+use Rattle.std.proofs.Common.{◌∙◌, [], ap, sym, Option}
+use Rattle.mt_replay.specs.declared.event.FlsRunning.{FlsRunning}
+use Rattle.mt_replay.specs.Machine.{Machine, fls_service_of, by_fls_service}
+use Rattle.mt_replay.proofs.Texts.{Logs-nil}
+use Rattle.mt_replay.proofs.Services.{does_call_fls}
+use Rattle.mt_replay.proofs.event.call_fls.Goals as goal
+
+pub returns-in-None-clause-does : goal.returns-in-None-clause-does
+returns-in-None-clause-does g c =
+    let m : Machine = record { board = g.B.Port.state c.args.board.now; modules = c.args.modules.now } in
+    let none = sym c.fls_running_of.ensures ∙ c.in-None.is in
+    record {
+      touches = [];
+      attempts = [];
+      is = ap (λ (r : Option FlsRunning). by_fls_service m (fls_service_of c.args.call) r c.args.requests.items) none
+          ∙ does_call_fls m c.serve_fls.new.fls (fls_service_of c.args.call) c.serve_fls.result c.args.log.now c.serve_fls.ensures.reply c.serve_fls.ensures.next c.requires.empty;
+      taped = Logs-nil _;
+    }
