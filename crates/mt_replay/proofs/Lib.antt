@@ -4,5 +4,7 @@ pub mod Texts
 pub mod Turns
 pub mod Runs
 pub mod Heads
+pub mod Forms
 pub mod Jobs
 pub mod Services
+pub mod Latencies

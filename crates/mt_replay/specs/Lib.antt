@@ -6,3 +6,4 @@ pub mod Run
 pub mod Events
 pub mod Head
 pub mod Replay
+pub mod Latency

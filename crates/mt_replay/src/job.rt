@@ -12,6 +12,7 @@ ghost use Rattle.mt_conf.specs.Accepted.{IsAcceptedConfig};
 ghost use Rattle.mt_replay.specs.Machine.{Machine, IsReady, started};
 ghost use Rattle.mt_replay.specs.Outcome.{opening_text, bad_config, bad_config_text, by_job, rule_number as number_of_rule};
 ghost use Rattle.mt_replay.specs.Run.{IsReadyFor, UsesBoard};
+ghost use Rattle.mt_replay.specs.Latency.{RequestsWaitShortly};
 ghost use Rattle.mt_replay.specs.Replay.{form_named, form_of, IsAcceptedFound, FoundGives, HeadFails, Begins, EmptyGives, HasScript, IsFound, IsStart, JobGives, Replays, StatusCaused, StaysFree, Told, outcomes};
 
 use crate::form::{Form, Task};
@@ -380,6 +381,8 @@ pub fn replay<S: Source, K: Sink, B: Bench>(
         (record { left = S.left source.old; left' = S.left source.new; held = K.held sink.old; held' = K.held sink.new; tape = B.tape board.old; tape' = B.tape board.new }) (K.faults sink.old) (K.faults sink.new) }
     ensures cause { StatusCaused result (S.faults source.old) (S.faults source.new) (K.faults sink.old) (K.faults sink.new) }
     ensures free { StaysFree (B.state board.old) (B.state board.new) }
+    // Whatever bytes a job has, each request of its replay waits 0, or less than the length of the sequence that it meets.
+    ensures latency { RequestsWaitShortly (B.defect board.old) }
 {
     match form_of(words) {
         Some(form) => replay_job(alloc, form, source, sink, board),

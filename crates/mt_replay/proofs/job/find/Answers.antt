@@ -23,7 +23,7 @@ pub returns-in-Ok-Whole-clause-ok : goal.returns-in-Ok-Whole-clause-ok
 returns-in-Ok-Whole-clause-ok g c =
     let head = rw c.in-Ok-Whole.field-0-is at c.in-Ok-Whole.ensures.ok in
     let kept = c.deref-in-Ok-Whole.ensures.value in
-    WhereTold-map _ _ head (λ x y h. found_whole _ x y c.whole_refused.result (λ defect. ap (λ (l : List ℕ). by_job Finished defect (Whole l)) (sym kept) ∙ c.whole_refused.ensures defect) h)
+    WhereTold-map _ _ head (λ x y h. found_whole _ x y c.whole_refused.result (λ form defect. ap (λ (l : List ℕ). by_job form Finished defect (Whole l)) (sym kept) ∙ c.whole_refused.ensures form defect) h)
 
 pub returns-in-Ok-TooLong-clause-ok : goal.returns-in-Ok-TooLong-clause-ok
 returns-in-Ok-TooLong-clause-ok g c =
