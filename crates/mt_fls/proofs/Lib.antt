@@ -1,0 +1,5 @@
+pub mod Blocks
+pub mod Moves
+pub mod Settings
+pub mod Ticks
+pub mod BlockTests

@@ -1,5 +1,5 @@
 -- The state table of FlsTst.
-use Rattle.std.specs.Prelude.{ℕ, false, true, length, Option, Some, None, if◌then◌else◌, nat_lt}
+use Rattle.std.specs.Prelude.{ℕ, false, true, List, length, Option, Some, None, if◌then◌else◌, nat_lt}
 use Rattle.mt_port.specs.declared.request.HandlerCall.{HandlerCall}
 use Rattle.mt_port.specs.declared.request.HandlerCall.TheVariants as calls
 use Rattle.mt_window.specs.declared.reply.Reply.{Reply}

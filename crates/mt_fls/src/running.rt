@@ -258,13 +258,7 @@ impl Fls {
     }
 
     // A foreground test, from just after boundary 0.
-    fn start_from<P: Port>(
-        &mut self,
-        port: &mut P,
-        log: &mut EventLog,
-        block: u32,
-        state: State,
-    )
+    fn start_from<P: Port>(&mut self, port: &mut P, log: &mut EventLog, block: u32, state: State)
         requires ready { IsReady Itself (P.state port.old) log.old }
         requires shape { (P.state port.old).shape ≡ self.old.setting.shape }
         requires start { (P.state port.old).count ≡ 0 }

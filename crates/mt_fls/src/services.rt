@@ -1,7 +1,7 @@
 //! The services of FlsTst.
 
 ghost use Rattle.std.specs.Prelude.{◌≡◌};
-ghost use Rattle.mt_fls.specs.Table.{Init, DeInit, Abort, Suspend, Resume, GetCurrentState, GetTestResultBgnd, GetTestResultFgnd, GetErrorDetails, GetVersionInfo, reply_to, after, shown_state};
+ghost use Rattle.mt_fls.specs.Table.{Init, DeInit, Abort, Suspend, Resume, GetCurrentState, GetTestResultBgnd, GetTestResultFgnd, GetErrorDetails, GetVersionInfo, initialised, reply_to, after, shown_state};
 
 use crate::state::{Back, Fls, State};
 use mt_window::{Detail, Refusal, Reply, ShownState, TestResult, Value};
@@ -25,7 +25,9 @@ fn shown(state: State) -> ShownState
 
 impl Fls {
     // Init, where it is taken.
-    fn reset(&mut self) {
+    fn reset(&mut self)
+        ensures { self.new ≡ initialised self.old }
+    {
         self.state = State::Init;
         self.completed = None;
         self.result = TestResult::NotTested;

@@ -1,6 +1,6 @@
 //! The comparison of one slice.
 
-ghost use Rattle.std.specs.Prelude.{◌≡◌, ◌<◌, ◌+◌, ◌*◌, ◌^◌, false, length, All};
+ghost use Rattle.std.specs.Prelude.{◌≡◌, ◌<◌, ◌+◌, ◌*◌, ◌^◌, Some, false, length, All};
 ghost use Rattle.mt_window.specs.declared.reply.Detail.TheVariants.{Bgnd};
 ghost use Rattle.mt_port.specs.Board.{IsWithinLimits, Logs};
 ghost use Rattle.mt_seq.specs.Compare.{comparison, compare_hold, compare_touches};
@@ -26,6 +26,7 @@ fn copy_at(blocks: &[FlashBlock], at: Position) -> u32
 }
 
 // One sequence.
+#[tactic(auto, unfolding(mt_seq::specs::Compare::compare_hold))]
 fn run_sequence<P: Port>(
     port: &mut P,
     blocks: &[FlashBlock],
@@ -113,7 +114,8 @@ impl Fls {
     // The position of the next slice of the pass; none after its last.
     fn next_of_pass(&self, at: Position) -> Option<Position>
         requires { IsValid self.now.setting.config.atomic (bgnd_spans self.now) at }
-        ensures { result ≡ next_of self.now.setting.config.atomic (bgnd_spans self.now) at }
+        ensures next { result ≡ next_of self.now.setting.config.atomic (bgnd_spans self.now) at }
+        ensures valid { (p : _) → result ≡ Some p → IsValid self.now.setting.config.atomic (bgnd_spans self.now) p }
     {
         let config = self.config();
         following(config.bgnd.as_slice(), config.atomic, at)

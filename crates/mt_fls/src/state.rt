@@ -4,7 +4,8 @@ ghost use Rattle.std.specs.Prelude.{◌≡◌, None, false};
 ghost use Rattle.mt_port.specs.Board.{IsWithinLimits};
 ghost use Rattle.mt_window.specs.declared.reply.TestResult.TheVariants.{NotTested};
 ghost use Rattle.mt_window.specs.declared.reply.Detail.TheVariants.{Nothing};
-ghost use Rattle.mt_blocks.specs.Accepted.{IsAcceptedFls};
+ghost use Rattle.mt_blocks.specs.Slices.{AreSpans};
+ghost use Rattle.mt_blocks.specs.Accepted.{IsAcceptedFls, flash_spans};
 ghost use Rattle.mt_fls.specs.State.{FlsTst, IsPlace};
 
 use mt_blocks::{FlsConfig, Position};
@@ -107,6 +108,8 @@ impl Fls {
         ensures config { result.now ≡ self.now.setting.config }
         ensures accepted { IsAcceptedFls self.now.setting.shape result.now }
         ensures limits { IsWithinLimits self.now.setting.shape }
+        ensures bgnd { AreSpans result.now.atomic (flash_spans result.now.bgnd) }
+        ensures fgnd { AreSpans result.now.atomic (flash_spans result.now.fgnd) }
     {
         &self.config
     }
