@@ -1,5 +1,5 @@
 -- The forms that do not use the board give the same on every machine.
-use Rattle.std.proofs.Common.{ℕ, ◌+◌, ◌≡◌, Bool, true, false, List, [], ◌∷◌, ◌++◌, length, Option, Some, None, Result, Ok, Err, refl, sym, ap, ◌∙◌, subst}
+use Rattle.std.proofs.Common.{ℕ, ◌+◌, ◌≡◌, Bool, true, false, List, [], ◌∷◌, ◌++◌, length, Option, None, Result, Ok, Err, refl, sym, ap, ◌∙◌, subst}
 use Rattle.std.specs.Prelude.{nat_lt, if◌then◌else◌}
 use Rattle.mt_port.specs.declared.board.Shape.{Shape}
 use Rattle.mt_port.specs.declared.board.Touch.{Touch}
@@ -42,7 +42,7 @@ judged-same task apart m m' n line f f' h = of (nat_lt 1000000 n) (nat_lt 1024 (
   where
     of : (late long : Bool) (r : Result Line LineRefusal)
         → SameSaid (if late then refused m n 11 1 else (if long then refused m n 10 1025 else answered task m n r f))
-            (if late then refused m' n 11 1 else (if long then refused m' n 10 1025 else answered task m' n r f'))
+        (if late then refused m' n 11 1 else (if long then refused m' n 10 1025 else answered task m' n r f'))
     of true long r = record { text = refl; status = refl }
     of false true r = record { text = refl; status = refl }
     of false false (Err e) = record { text = refl; status = refl }

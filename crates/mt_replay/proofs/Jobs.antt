@@ -3,11 +3,10 @@ use Rattle.std.proofs.Common.{ℕ, ◌≡◌, List, [], ◌∷◌, ◌++◌, len
 use Rattle.std.proofs.lemmas.Bool.{lt-leb, lt-ltb}
 use Rattle.std.specs.Io.KnownBytes.{prepend_known, Appends}
 use Rattle.mt_port.specs.Streams.{WhereTold, AppendsFront}
-use Rattle.mt_port.specs.Board.{Board, Logs}
+use Rattle.mt_port.specs.Board.{Board}
 use Rattle.mt_port.specs.declared.board.Touch.{Touch}
 use Rattle.mt_port.proofs.StreamLemmas.{Appends-trans}
 use Rattle.mt_fault.specs.declared.fault.Fault.{Fault as MemoryFault}
-use Rattle.mt_port.specs.declared.board.Shape.{Shape}
 use Rattle.mt_conf.specs.declared.config.Config.{Config}
 use Rattle.mt_replay.specs.declared.refused.Refused.{Refused}
 use Rattle.mt_replay.specs.declared.refused.Refused.TheVariants as because
@@ -186,6 +185,7 @@ broken_job result task c defect m before board held a b left h h' h'' hend was t
   where
     run : Run
     run = record { text = e.text ++ read_fault_text; touches = e.touches; status = status.ReadFault; board = board }
+
     taken : WhereTold a left (TakenGive (outcomes task.form defect) (opened task c run))
     taken = told_through a b held left _ begins e.run (λ x y z t r. broken_is task c defect m before was tape _ held x y z t r.front start none r.taken r.run)
 
@@ -196,9 +196,11 @@ pub stopped_job : (task : Task) (c : Config) (defect : Option MemoryFault) (m : 
 stopped_job task c defect m before board held a b left h h' h'' was tape tape' start opening begins e = record {
   text = opening_text task.form c ++ e.text;
   written = AppendsFront-after h h' h'' (opening_text task.form c) e.text opening e.written;
-  defined = told_through a b held left _ begins e.run (λ x y z t r. inl (r.0,
+  defined = told_through a b held left _ begins e.run (λ x y z t r. inl (
+    r.0,
     ap (λ (o : Outcome). o.text) (finished_is task c defect m before was tape x y t start) ∙ ap (λ (l : List ℕ). opening_text task.form c ++ l) r.1
-    ∙ sym (append_assoc (opening_text task.form c) e.text r.0)));
+        ∙ sym (append_assoc (opening_text task.form c) e.text r.0),
+  ));
 }
 
 -- a configuration that could not be written in full

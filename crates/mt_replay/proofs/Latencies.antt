@@ -1,5 +1,5 @@
 -- No request of a replay waits as long as the sequence that it meets.
-use Rattle.std.proofs.Common.{ℕ, suc, ◌+◌, ◌<◌, ◌≡◌, Bool, true, false, cond, List, [], ◌∷◌, ◌++◌, length, All, Option, Some, None, Result, Ok, Err, refl, sym, ap, ◌∙◌, arith, append_assoc}
+use Rattle.std.proofs.Common.{ℕ, ◌+◌, ◌≡◌, Bool, true, false, cond, List, [], ◌∷◌, ◌++◌, length, All, Option, Some, None, Result, Ok, Err, refl, sym, ap, ◌∙◌, arith, append_assoc}
 use Rattle.std.specs.Prelude.{nat_lt, is_some, IfOk}
 use Rattle.std.proofs.lemmas.List.Elements.{All-push, All-cons}
 use Rattle.mt_port.specs.declared.board.Shape.{Shape}
@@ -25,32 +25,35 @@ use Rattle.mt_conf.specs.declared.config.Config.{Config}
 use Rattle.mt_conf.specs.declared.config.ConfigRefusal.{ConfigRefusal}
 use Rattle.mt_conf.specs.Outcome.{outcome as config_of}
 use Rattle.mt_replay.specs.declared.event.Running.{Running}
+use Rattle.mt_replay.specs.declared.event.Running.TheVariants as calls
 use Rattle.mt_replay.specs.declared.event.FlsRunning.{FlsRunning}
+use Rattle.mt_replay.specs.declared.event.FlsRunning.TheVariants as fls_calls
+use Rattle.mt_ram.specs.Table.{MainFunction}
+use Rattle.mt_fls.specs.Table as fls_table
 use Rattle.mt_replay.specs.declared.form.Form.TheVariants as forms
-use Rattle.mt_replay.specs.declared.form.Task.{Task}
 use Rattle.mt_replay.specs.Input.{Ending, Finished, Failed, Cut, Job, Parted, Whole, job_of}
-use Rattle.mt_replay.specs.Machine.{Machine, Step, begun, replied, on_board, running, by_service, running_call, service_of, by_fls_service, fls_running_call, fls_service_of, by_event, step, started}
+use Rattle.mt_replay.specs.Machine.{Machine, Step, with_ram, with_fls, events_of, fls_events_of, begun, replied, on_board, running, by_service, running_call, service_of, by_fls_service, fls_running_call, fls_service_of, by_event, step, started}
 use Rattle.mt_replay.specs.Outcome.{Run, Reaction, played, stepped, refused, answered, run_lines}
-use Rattle.mt_replay.specs.Latency.{WaitsShortly, stepping, steps_from, last_steps, line_steps, configured_steps, by_job_steps, RequestsWaitShortly, steps_text, script_steps, TracesAreOfSteps}
+use Rattle.mt_replay.specs.Latency.{WaitsShortly, stepping, steps_from, last_steps, line_steps, configured_steps, by_job_steps, RequestsWaitShortly, steps_text, TracesAreOfSteps}
 
 -- one reply, which waits for nothing
 replied-short : (made : List Attempt) (reply : Reply) → All (IsShort made) (Own reply ∷ [])
 replied-short made reply = All-push (IsShort made) [] (Own reply) (λ k d h. absurd (omega (arith, h))) tt
 
 -- a running event
-running-short : {C X V : Type 0} (with : Board → C → Machine) (call : Events C X V) (board : Board) (module : C) (requests : List Request) → AreOrdered requests
-    → WaitsShortly (running with call (begun board module requests))
-running-short with call board module requests ordered =
-    let s = begun board module requests in
+running-short : {C X V : Type 0} (with : Board → C → Machine) (call : Events C X V) (board : Board) (callee : C) (requests : List Request) → AreOrdered requests
+    → WaitsShortly (running with call (begun board callee requests))
+running-short with call board callee requests ordered =
+    let s = begun board callee requests in
     All-push (IsShort (event_attempts call s)) ((event_of call s).after.log) (Own (event_of call s).reply) (event-waits call s refl refl ordered) tt
 
 ram-short : (m : Machine) (call : Option Running) (service : _) (requests : List Request) → AreOrdered requests → WaitsShortly (by_service m service call requests)
 ram-short m None service requests ordered = replied-short [] _
-ram-short m (Some call) service requests ordered = running-short _ _ m.board m.modules.ram requests ordered
+ram-short m (Some call) service requests ordered = running-short (with_ram m.modules) (events_of call) m.board m.modules.ram requests ordered
 
 fls-short : (m : Machine) (call : Option FlsRunning) (service : _) (requests : List Request) → AreOrdered requests → WaitsShortly (by_fls_service m service call requests)
 fls-short m None service requests ordered = replied-short [] _
-fls-short m (Some call) service requests ordered = running-short _ _ m.board m.modules.fls requests ordered
+fls-short m (Some call) service requests ordered = running-short (with_fls m.modules) (fls_events_of call) m.board m.modules.fls requests ordered
 
 -- an injection, where a fault is there or not
 inject-short : (m : Machine) (fault : Fault) (there : Bool) → WaitsShortly (cond there (replied m replies.Present) (replied (on_board m (injected m.board fault)) replies.Done))
@@ -61,8 +64,8 @@ event-short : (m : Machine) (e : Event) (requests : List Request) → AreOrdered
 event-short m event.Nothing requests ordered = λ k d h. absurd (omega (arith, h))
 event-short m (event.Ram call) requests ordered = ram-short m (running_call call) (service_of call) requests ordered
 event-short m (event.Fls call) requests ordered = fls-short m (fls_running_call call) (fls_service_of call) requests ordered
-event-short m event.TickRam requests ordered = running-short _ _ m.board m.modules.ram requests ordered
-event-short m event.TickFls requests ordered = running-short _ _ m.board m.modules.fls requests ordered
+event-short m event.TickRam requests ordered = ram-short m (Some calls.Tick) MainFunction requests ordered
+event-short m event.TickFls requests ordered = fls-short m (Some fls_calls.Tick) fls_table.MainFunction requests ordered
 event-short m (event.App op) requests ordered = replied-short [] _
 event-short m (event.Inject fault) requests ordered = inject-short m fault (is_some m.board.fault)
 event-short m event.Heal requests ordered = replied-short [] _
@@ -130,7 +133,7 @@ from-text shape m n line follow steps h = of (nat_lt 1000000 n) (nat_lt 1024 (le
   where
     of : (late long : Bool) → Begins (answered (record { form = forms.Run; shape = shape }) m n (line_of shape line) follow).text (steps_text shape n (stepping m (line_of shape line) steps))
         → Begins ((cond late (refused m n 11 1) (cond long (refused m n 10 1025) (answered (record { form = forms.Run; shape = shape }) m n (line_of shape line) follow))).text)
-            (steps_text shape n (cond late [] (cond long [] (stepping m (line_of shape line) steps))))
+        (steps_text shape n (cond late [] (cond long [] (stepping m (line_of shape line) steps))))
     of true long all = (_, refl)
     of false true all = (_, refl)
     of false false all = all

@@ -17,7 +17,9 @@ use Rattle.mt_replay.specs.declared.status.Status.TheVariants as status
 use Rattle.mt_replay.specs.Input.{Finished, Failed, Cut, cut, led, begun, BeginsTooLong, TakesLine, BreaksOff}
 use Rattle.mt_replay.specs.Machine.{Machine}
 use Rattle.mt_replay.specs.Outcome.{Run, preceded, done, refused, read_fault, read_fault_text, judged, last_judged, run_lines, run_script}
-use Rattle.mt_replay.specs.Run.{Change, LineGives, EndGives, Crosses, Goes, Ends, Breaks, Stops, TurnGives, ScriptGives}
+use Rattle.mt_replay.specs.declared.form.Form.{Form}
+use Rattle.mt_replay.specs.declared.form.Form.TheVariants as forms
+use Rattle.mt_replay.specs.Run.{Change, UsesBoard, LineGives, EndGives, Crosses, Goes, Ends, Breaks, Stops, TurnGives, ScriptGives}
 use Rattle.std.specs.Io.KnownBytes.{prepend_known}
 use Rattle.mt_replay.proofs.Feeds.{feed_or_not}
 use Rattle.mt_replay.proofs.Lines.{cut-line, cut-rest, Filled}
@@ -25,6 +27,18 @@ use Rattle.mt_replay.proofs.Texts.{AppendsFront-after, Logs-nil, Logs-append, Wh
 
 abbrev pub change : (left left' held held' : Option (List ℕ)) (tape tape' : Option (List Touch)) → Change
 change left left' held held' tape tape' = record { left = left; left' = left'; held = held; held' = held'; tape = tape; tape' = tape' }
+
+-- ---- the board
+
+pub UsesBoard-none : (form : Form) (b : Board) (tape : Option (List Touch)) → UsesBoard form b b tape tape
+UsesBoard-none forms.Run b tape = tt
+UsesBoard-none forms.Check b tape = (refl, refl)
+UsesBoard-none forms.Format b tape = (refl, refl)
+
+pub UsesBoard-then : (form : Form) (a b d : Board) (tape tape' tape'' : Option (List Touch)) → UsesBoard form a b tape tape' → UsesBoard form b d tape' tape'' → UsesBoard form a d tape tape''
+UsesBoard-then forms.Run a b d tape tape' tape'' p q = tt
+UsesBoard-then forms.Check a b d tape tape' tape'' p q = (q.0 ∙ p.0, q.1 ∙ p.1)
+UsesBoard-then forms.Format a b d tape tape' tape'' p q = (q.0 ∙ p.0, q.1 ∙ p.1)
 
 -- ---- one line
 

@@ -1,4 +1,4 @@
--- The services that only answer leave the module, and the requests of a line can be served.
+-- The services that only answer leave the kind, and the requests of a line can be served.
 use Rattle.std.proofs.Common.{ℕ, ◌*◌, ◌≤◌, ◌≡◌, Bool, true, false, List, [], ◌∷◌, ◌++◌, length, get_or, cond, All, refl, sym, ap, ◌∙◌, arith}
 use Rattle.std.proofs.lemmas.List.Elements.{All-head, All-tail}
 use Rattle.std.specs.Prelude.{nat_lt, Some, slice_index_or}
@@ -114,27 +114,27 @@ stays_details f = of f.state
 
 -- ---- requests
 
-sound_op : (module : Module) (shape : Shape) (o : HandlerOp) → IsSoundInHandler shape o → IsFor module o → IsSoundHandlerOp shape module o
-sound_op module shape (op.App o) sound for = sound
-sound_op module shape (op.Call call) sound for = for.0
+sound_op : (kind : Module) (shape : Shape) (o : HandlerOp) → IsSoundInHandler shape o → IsFor kind o → IsSoundHandlerOp shape kind o
+sound_op kind shape (op.App o) sound for = sound
+sound_op kind shape (op.Call call) sound for = for.0
 
-sound_ops : (module : Module) (shape : Shape) (ops : List HandlerOp) → All (IsSoundInHandler shape) ops → All (IsFor module) ops → All (IsSoundHandlerOp shape module) ops
-sound_ops module shape ops sound for = λ k d h. sound_op module shape (get_or ops k d) (sound k d h) (for k d h)
+sound_ops : (kind : Module) (shape : Shape) (ops : List HandlerOp) → All (IsSoundInHandler shape) ops → All (IsFor kind) ops → All (IsSoundHandlerOp shape kind) ops
+sound_ops kind shape ops sound for = λ k d h. sound_op kind shape (get_or ops k d) (sound k d h) (for k d h)
 
-sound_requests : (module : Module) (shape : Shape) (rs : List Request) → All (λ (r : Request). All (IsSoundInHandler shape) r.ops.items) rs → All (IsRequest module) rs → All (λ (r : Request). All (IsSoundHandlerOp shape module) r.ops.items) rs
-sound_requests module shape rs sound for = λ k d h. sound_ops module shape ((get_or rs k d).ops.items) (sound k d h) ((for k d h).calls)
+sound_requests : (kind : Module) (shape : Shape) (rs : List Request) → All (λ (r : Request). All (IsSoundInHandler shape) r.ops.items) rs → All (IsRequest kind) rs → All (λ (r : Request). All (IsSoundHandlerOp shape kind) r.ops.items) rs
+sound_requests kind shape rs sound for = λ k d h. sound_ops kind shape ((get_or rs k d).ops.items) (sound k d h) ((for k d h).calls)
 
-cost_few : (module : Module) (rs : List Request) → All (IsRequest module) rs → cost rs ≤ 9 * length rs
-cost_few module [] for = omega arith
-cost_few module (r ∷ rs) for = omega (arith, (All-head (IsRequest module) r rs for).few, cost_few module rs (All-tail (IsRequest module) r rs for))
+cost_few : (kind : Module) (rs : List Request) → All (IsRequest kind) rs → cost rs ≤ 9 * length rs
+cost_few kind [] for = omega arith
+cost_few kind (r ∷ rs) for = omega (arith, (All-head (IsRequest kind) r rs for).few, cost_few kind rs (All-tail (IsRequest kind) r rs for))
 
 -- an event that begins with the requests of a line can serve them
-pub ready_to_serve : (module : Module) (b : Board) (requests : List Request) → b.held ≡ false → b.left ≡ requests → AreSoundRequests b.shape requests → AreFor (Some module) requests → IsReady module b []
-ready_to_serve module b requests free left sound for =
+pub ready_to_serve : (kind : Module) (b : Board) (requests : List Request) → b.held ≡ false → b.left ≡ requests → AreSoundRequests b.shape requests → AreFor (Some kind) requests → IsReady kind b []
+ready_to_serve kind b requests free left sound for =
     rw left record {
       free = free;
-      room = omega (arith, sound.few, cost_few module requests for);
-      sound = sound_requests module b.shape requests sound.sound for;
+      room = omega (arith, sound.few, cost_few kind requests for);
+      sound = sound_requests kind b.shape requests sound.sound for;
       ordered = sound.ordered;
     }
 

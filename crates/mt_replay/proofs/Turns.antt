@@ -1,5 +1,5 @@
 -- What judging a line gives.
-use Rattle.std.proofs.Common.{ℕ, ◌≤◌, ◌≡◌, ◌≢◌, false, List, ◌++◌, length, Option, Result, Ok, Err, refl, sym, ap, ◌∙◌, append_assoc}
+use Rattle.std.proofs.Common.{subst, [], ℕ, ◌≤◌, ◌≡◌, ◌≢◌, false, List, ◌++◌, length, Result, Ok, Err, refl, sym, ap, ◌∙◌, append_assoc}
 use Rattle.std.specs.Prelude.{nat_lt}
 use Rattle.std.proofs.lemmas.Bool.{le-ltb}
 use Rattle.mt_text.specs.declared.line.Line.{Line}
@@ -13,7 +13,7 @@ use Rattle.mt_replay.specs.declared.run.Fault.TheVariants as fault
 use Rattle.mt_replay.specs.declared.run.Turn.{Turn}
 use Rattle.mt_replay.specs.declared.run.Turn.TheVariants as turn
 use Rattle.mt_replay.specs.declared.status.Status.TheVariants as status
-use Rattle.mt_replay.specs.Machine.{Machine, Step, step}
+use Rattle.mt_replay.specs.Machine.{Machine, step}
 use Rattle.mt_replay.specs.Outcome.{Run, Reaction, preceded, played, stepped, answered, judged}
 use Rattle.mt_port.specs.Board.{Logs}
 use Rattle.mt_port.specs.declared.board.Shape.{Shape}
@@ -22,8 +22,8 @@ use Rattle.std.specs.Prelude.{OnOk, OnErr, IfOk}
 use Rattle.std.specs.Io.KnownBytes.{Appends}
 use Rattle.mt_port.specs.Streams.{AppendsFront}
 use Rattle.mt_replay.specs.declared.status.Status.{Status}
-use Rattle.mt_replay.specs.Run.{Change, Judging, Answered, CutOff, SinkCaused, LineGives, EndGives}
-use Rattle.mt_replay.proofs.Texts.{AppendsFront-after, Logs-append}
+use Rattle.mt_replay.specs.Run.{Change, Judging, Answered, SinkCaused, LineGives, EndGives}
+use Rattle.mt_replay.proofs.Texts.{AppendsFront-after, Logs-append, entries_text-nil}
 
 -- a line that is judged otherwise, but alike
 pub LineGives-same : (r : Result Turn Fault) (j k : Judging) (m' : Machine) (x : Change) → ((follow : Machine → Run) → k follow ≡ j follow) → LineGives r j m' x → LineGives r k m' x
@@ -80,9 +80,14 @@ pub played_line : (r : Result Turn Fault) (shape : Shape) (m m' : Machine) (numb
     → OnOk r (Appends x.held x.held' (entries_text shape.width number entries)) → OnErr r (AppendsFront x.held x.held' (entries_text shape.width number entries))
     → IfOk r (λ given. given ≡ turn.More) → (sink sink' : ℕ) → SinkCaused r sink sink' → LineGives r (stepped (played shape number (step m line))) m' x
 played_line r shape m m' number line entries x s ok err same sink sink' cause =
-    LineGives-same r (stepped (played shape number (record { after = m'; entries = entries; touches = s.touches; attempts = s.attempts }))) _ m' x
-    (λ follow. ap (λ (o : Step). stepped (played shape number o) follow) s.step)
-    (written_line r (played shape number (record { after = m'; entries = entries; touches = s.touches; attempts = s.attempts })) m' x refl s.taped ok err same sink sink' cause)
+    written_line r (played shape number (step m line)) m' x s.after s.taped
+    (subst (λ (l : List Entry). OnOk r (Appends x.held x.held' (entries_text shape.width number l))) (sym s.entries) ok)
+    (subst (λ (l : List Entry). OnErr r (AppendsFront x.held x.held' (entries_text shape.width number l))) (sym s.entries) err) same sink sink' cause
+
+-- a line that does nothing
+pub silent_line : (shape : Shape) (m m' : Machine) (number : ℕ) (line : Line) (x : Change) → Steps m m' line [] x.tape x.tape' → Appends x.held x.held' [] → Answered (stepped (played shape number (step m line))) m' x
+silent_line shape m m' number line x s written =
+    reacted_line (played shape number (step m line)) m' x [] (ap (entries_text shape.width number) s.entries ∙ entries_text-nil shape.width number) s.after s.taped written
 
 -- a line of a number and a length that may be
 pub judged-is : (task : Task) (m : Machine) (number : ℕ) (line : List ℕ) (follow : Machine → Run) → number ≤ 1000000 → length line ≤ 1024

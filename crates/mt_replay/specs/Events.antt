@@ -10,17 +10,15 @@ use Rattle.mt_text.specs.declared.line.Line.{Line}
 use Rattle.mt_text.specs.Accepted.{AreFor}
 use Rattle.mt_window.specs.declared.reply.Reply.{Reply}
 use Rattle.mt_window.specs.declared.reply.Reply.TheVariants as replies
-use Rattle.mt_window.specs.Slices.{Attempt}
 use Rattle.mt_window.specs.declared.log.Entry.{Entry}
 use Rattle.mt_window.specs.declared.log.Entry.TheVariants.{Own}
 use Rattle.mt_replay.specs.Machine.{Machine, Step, step}
 
 -- The line is answered with these entries, and these accesses are made.
-pub record Steps (m m' : Machine) (line : Line) (entries : List Entry) (tape tape' : Option (List Touch)) : Type 0 where
-  pub touches : List Touch
-  pub attempts : List Attempt
-  pub step : step m line ≡ record { after = m'; entries = entries; touches = touches; attempts = attempts }
-  pub taped : Logs tape tape' touches
+pub record Steps (m m' : Machine) (line : Line) (entries' : List Entry) (tape tape' : Option (List Touch)) : Type 0 where
+  pub after : (step m line).after ≡ m'
+  pub entries : (step m line).entries ≡ entries'
+  pub taped : Logs tape tape' (step m line).touches
 
 -- What was entered in the log comes first, and then the line's own reply, where it has one.
 abbrev pub AnswerGives : Option Reply → Machine → Machine → Line → (log : List Entry) → (tape tape' : Option (List Touch)) → Type 0
@@ -34,12 +32,11 @@ pub record Injects (old new : Board) (fault : Fault) (answer : Reply) : Type 0 w
 
 -- A step with this reply, these entries before it, and these accesses on the tape.
 pub record Does (step : Step) (m' : Machine) (answer : Reply) (log : List Entry) (tape tape' : Option (List Touch)) : Type 0 where
-  pub touches : List Touch
-  pub attempts : List Attempt
-  pub is : step ≡ record { after = m'; entries = log ++ Own answer ∷ []; touches = touches; attempts = attempts }
-  pub taped : Logs tape tape' touches
+  pub after : step.after ≡ m'
+  pub entries : step.entries ≡ log ++ Own answer ∷ []
+  pub taped : Logs tape tape' step.touches
 
--- requests of an event of a module
-pub record AreReady (module : Module) (shape : Shape) (requests : List Request) : Type 0 where
+-- requests of an event of this kind of module
+pub record AreReady (kind : Module) (shape : Shape) (requests : List Request) : Type 0 where
   pub sound : AreSoundRequests shape requests
-  pub callees : AreFor (Some module) requests
+  pub callees : AreFor (Some kind) requests

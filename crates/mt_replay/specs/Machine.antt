@@ -89,7 +89,7 @@ flipping m at = replied (on_board m (record (m.board) { flash = flipped m.board.
 
 -- the scene as a running event of a module begins with these requests
 abbrev pub begun : {C : Type 0} → Board → C → List Request → Scene C
-begun board module requests = scene (record board { left = requests; taken = 0; count = 0 }) module []
+begun board callee requests = scene (record board { left = requests; taken = 0; count = 0 }) callee []
 
 -- what the event left, with its own reply entered last
 abbrev pub happened : {C : Type 0} → (Board → C → Machine) → Outcome C → List Touch → List Attempt → Step

@@ -82,12 +82,7 @@ fn make<B: Bench>(ram: &mut Ram, board: &mut B, call: Running, log: &mut EventLo
 }
 
 // A running call of FlsTst on a board whose event has begun.
-fn make_fls<B: Bench>(
-    fls: &mut Fls,
-    board: &mut B,
-    call: FlsRunning,
-    log: &mut EventLog,
-) -> Reply
+fn make_fls<B: Bench>(fls: &mut Fls, board: &mut B, call: FlsRunning, log: &mut EventLog) -> Reply
     requires ready { IsReadyToServe FlsTst (B.state board.old) log.old }
     requires shape { (B.state board.old).shape ≡ fls.old.setting.shape }
     requires start { (B.state board.old).count ≡ 0 }

@@ -1,10 +1,14 @@
 use Rattle.std.proofs.Common.{◌∷◌, ◌++◌, [], sym, subst, List}
+use Rattle.mt_port.proofs.StreamLemmas.{Appends-nil}
 use Rattle.mt_window.specs.declared.log.Entry.{Entry}
 use Rattle.mt_window.specs.declared.log.Entry.TheVariants.{Own}
 use Rattle.mt_replay.specs.Events.{Steps}
 use Rattle.mt_replay.specs.Machine.{Machine}
-use Rattle.mt_replay.proofs.Turns.{played_line}
+use Rattle.mt_replay.proofs.Turns.{played_line, silent_line}
 use Rattle.mt_replay.proofs.run.play_line.Goals as goal
+
+pub returns-in-None-clause-gives : goal.returns-in-None-clause-gives
+returns-in-None-clause-gives g c = silent_line c.args.shape _ _ c.args.number c.args.line _ c.in-None.ensures.gives (Appends-nil _)
 
 pub returns-in-Some-clause-gives : goal.returns-in-Some-clause-gives
 returns-in-Some-clause-gives g c =

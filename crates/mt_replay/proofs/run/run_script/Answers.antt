@@ -3,12 +3,13 @@ use Rattle.std.specs.Io.KnownBytes.{prepend_known}
 use Rattle.mt_replay.specs.declared.run.Turn.TheVariants as turn
 use Rattle.mt_replay.specs.Machine.{Machine}
 use Rattle.mt_replay.specs.Run.{Goes}
-use Rattle.mt_replay.proofs.Runs.{change, Goes-none, Goes-goes, turn_ends}
+use Rattle.mt_replay.proofs.Runs.{change, UsesBoard-none, UsesBoard-then, Goes-none, Goes-goes, turn_ends}
 use Rattle.mt_replay.proofs.run.run_script.Goals as goal
 
 pub loop-number-init : goal.loop-number-init
 loop-number-init g c = record {
   ready = c.requires;
+  board = UsesBoard-none c.args.task.form _ _;
   goes = Goes-none _ _ 1 _ _ _;
   source = refl;
   sink = refl;
@@ -27,6 +28,7 @@ loop-number-preserved g c =
     let more = rw c.in-Ok-More.field-0-is at c.in-Ok-More.ensures.gives in
     record {
       ready = c.in-Ok-More.ensures.ready;
+      board = UsesBoard-then c.args.task.form _ _ _ _ _ _ c.loop-number.invariant.board c.in-Ok-More.ensures.board;
       goes = Goes-goes _ _ _ _ 1 _ _ _ _ _ _ _ _ _ _ _ c.loop-number.invariant.goes more;
       source = c.in-Ok-More.ensures.cause.0 ∙ c.loop-number.invariant.source;
       sink = c.in-Ok-More.ensures.cause.1 ∙ c.loop-number.invariant.sink;
