@@ -117,6 +117,11 @@ impl SimBoard {
 }
 
 impl Port for SimBoard {
+    ghost use Rattle.mt_word.specs.Word.{Fits};
+    ghost use Rattle.mt_fault.specs.History.{Read, Write};
+    ghost use Rattle.mt_port.specs.declared.board.Touch.{Touch};
+    ghost use Rattle.mt_port.specs.Board.{after, answered};
+    ghost use Rattle.mt_port.specs.Tape.{recorded};
     ghost use Rattle.mt_board.specs.Board.{sim_state, sim_tape};
     ghost use Rattle.mt_board.specs.Sound.{sound_with};
 
@@ -134,19 +139,42 @@ impl Port for SimBoard {
         self.held = false;
     }
 
-    fn read(&mut self, addr: u32) -> u64 {
+    fn read(&mut self, addr: u32) -> u64
+        requires held { (sim_state self.old).held ≡ true }
+        requires inside { addr < (sim_state self.old).shape.ram }
+        requires room { (sim_state self.old).count < 2 ^ 32 - 1 }
+        ensures word { result ≡ answered (sim_state self.old).fault (sim_state self.old).words addr }
+        ensures fits { Fits (sim_state self.old).shape.width result }
+        ensures state { sim_state self.new ≡ record (sim_state self.old) { words = after (sim_state self.old).fault (sim_state self.old).words (Read addr); count = (sim_state self.old).count + 1 } }
+        ensures tape { sim_tape self.new ≡ recorded (sim_tape self.old) (Touch.Read addr) }
+    {
         self.count += 1;
         self.tape.add(Touch::Read { addr });
         self.load(addr)
     }
 
-    fn write(&mut self, addr: u32, word: u64) {
+    fn write(&mut self, addr: u32, word: u64)
+        requires held { (sim_state self.old).held ≡ true }
+        requires inside { addr < (sim_state self.old).shape.ram }
+        requires fits { Fits (sim_state self.old).shape.width word }
+        requires room { (sim_state self.old).count < 2 ^ 32 - 1 }
+        ensures state { sim_state self.new ≡ record (sim_state self.old) { words = after (sim_state self.old).fault (sim_state self.old).words (Write addr word); count = (sim_state self.old).count + 1 } }
+        ensures tape { sim_tape self.new ≡ recorded (sim_tape self.old) (Touch.Write addr word) }
+    {
         self.count += 1;
         self.tape.add(Touch::Write { addr, word });
         self.store(addr, word);
     }
 
-    fn flash_read(&mut self, addr: u32) -> u64 {
+    fn flash_read(&mut self, addr: u32) -> u64
+        requires held { (sim_state self.old).held ≡ true }
+        requires inside { addr < (sim_state self.old).shape.flash }
+        requires room { (sim_state self.old).count < 2 ^ 32 - 1 }
+        ensures word { result ≡ slice_index (sim_state self.old).flash addr }
+        ensures fits { Fits (sim_state self.old).shape.width result }
+        ensures state { sim_state self.new ≡ record (sim_state self.old) { count = (sim_state self.old).count + 1 } }
+        ensures tape { sim_tape self.new ≡ recorded (sim_tape self.old) (Touch.Flash addr) }
+    {
         self.count += 1;
         self.tape.add(Touch::Flash { addr });
         self.flash_word(addr)

@@ -1,10 +1,17 @@
 // What the board does over several calls, with values that were worked out by hand.
 #![tactic(auto, unfolding(mt_port::specs::Board::powered_up))]
 
+ghost use Rattle.std.specs.Prelude.{◌≡◌, ◌<◌, ◌+◌, ◌-◌, ◌^◌, [], false};
+ghost use Rattle.mt_port.specs.Board.{AreSoundRequests};
+ghost use Rattle.mt_port.specs.declared.board.Shape.{Shape};
+ghost use Rattle.mt_board.specs.Board.{sim_state};
+
 use crate::SimBoard;
+use arrayvec::ArrayVec;
 use mt_fault::{Fault, FaultRefusal, Spot};
-use mt_port::{Answer, AppOp, Bench, Port, Shape, Touch};
+use mt_port::{Answer, AppOp, Bench, Port, Request, Shape, Touch};
 use mt_word::Width;
+use std::process::Abort;
 use std::test::Fail;
 
 const SMALL: Shape = Shape {
@@ -81,5 +88,115 @@ fn a_tape_tells_256_accesses(rt: HostRuntime) -> Result<(), Fail> {
         }]
         .as_slice())
     );
+    Ok(())
+}
+
+// How many test accesses come first, which call is made then, and the request that it hands out: its number, its offset
+// and the count.
+type Row = (u8, Take, Option<(u8, u32, u32)>);
+
+#[derive(Clone, Copy)]
+enum Take {
+    Due,
+    Left,
+}
+
+// The requests are at the offsets 0, 5, 5 and 9.
+const IN_TIME: [Row; 10] = [
+    (0, Take::Due, Some((1, 0, 0))),
+    (0, Take::Due, None),
+    (4, Take::Due, None),
+    (1, Take::Due, Some((2, 5, 5))),
+    (0, Take::Due, Some((3, 5, 5))),
+    (0, Take::Due, None),
+    (3, Take::Due, None),
+    (1, Take::Due, Some((4, 9, 9))),
+    (0, Take::Due, None),
+    (0, Take::Left, None),
+];
+
+const LATE: [Row; 6] = [
+    (7, Take::Due, Some((1, 0, 7))),
+    (0, Take::Left, Some((2, 5, 7))),
+    (1, Take::Due, Some((3, 5, 8))),
+    (0, Take::Due, None),
+    (0, Take::Left, Some((4, 9, 8))),
+    (0, Take::Left, None),
+];
+
+fn request(offset: u32) -> Request
+    ensures offset { result.offset ≡ offset }
+    ensures ops { result.ops.items ≡ [] }
+{
+    Request {
+        offset,
+        ops: ArrayVec::new(),
+    }
+}
+
+fn requests() -> ArrayVec<Request, 16>
+    ensures { (shape : Shape) → AreSoundRequests shape result.items }
+{
+    let mut requests = ArrayVec::new();
+    requests.push(request(0));
+    requests.push(request(5));
+    requests.push(request(5));
+    requests.push(request(9));
+    requests
+}
+
+fn read_times(board: &mut SimBoard, times: u8)
+    requires free { (sim_state board.old).held ≡ false }
+    requires inside { 0 < (sim_state board.old).shape.ram }
+    requires room { (sim_state board.old).count + times < 2 ^ 32 - 1 }
+    ensures free { (sim_state board.new).held ≡ false }
+    ensures shape { (sim_state board.new).shape ≡ (sim_state board.old).shape }
+{
+    board.hold();
+    for _ in 0..times {
+        board.read(0);
+    }
+    board.release();
+}
+
+fn taken(board: &mut SimBoard, take: Take) -> Option<(u8, u32, u32)>
+    requires { (sim_state board.old).held ≡ false }
+    ensures free { (sim_state board.new).held ≡ false }
+    ensures shape { (sim_state board.new).shape ≡ (sim_state board.old).shape }
+{
+    let due = match take {
+        Take::Due => board.take_due(),
+        Take::Left => board.take_left(),
+    };
+    due.map(|due| (due.number, due.request.offset, due.at))
+}
+
+// Begins an event with the requests, and makes the calls of a table.
+fn hands_out(rt: &impl Abort, board: &mut SimBoard, rows: &[Row])
+    requires free { (sim_state board.old).held ≡ false }
+    requires none { (sim_state board.old).left ≡ [] }
+    requires inside { 0 < (sim_state board.old).shape.ram }
+{
+    board.begin_event(requests());
+    for (reads, take, expected) in rows {
+        assert!(rt; board.made() < 100);
+        read_times(board, *reads);
+        assert_eq!(rt; taken(board, *take), *expected);
+    }
+}
+
+#[test]
+fn requests_come_in_time(rt: HostRuntime) -> Result<(), Fail> {
+    let mut board = SimBoard::new();
+    board.power_up(rt.alloc(), SMALL, 0)?;
+    hands_out(&rt, &mut board, &IN_TIME);
+    Ok(())
+}
+
+#[test]
+fn late_requests_come_in_their_order(rt: HostRuntime) -> Result<(), Fail> {
+    let mut board = SimBoard::new();
+    board.power_up(rt.alloc(), SMALL, 0)?;
+    hands_out(&rt, &mut board, &LATE);
     Ok(())
 }

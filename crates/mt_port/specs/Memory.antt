@@ -3,6 +3,7 @@ use Rattle.std.specs.Prelude.{ℕ, ◌+◌, ◌-◌, ◌<◌, ◌≤◌, ◌≡�
 use Rattle.mt_port.specs.declared.memory.MemSource.{MemSource}
 use Rattle.mt_port.specs.declared.memory.PlainSource.{PlainSource}
 use Rattle.mt_port.specs.declared.memory.MemSink.{MemSink}
+use Rattle.mt_port.specs.Causes.{RoseByOne}
 
 -- the bytes that are left
 abbrev pub plain_left : PlainSource → List ℕ
@@ -50,18 +51,22 @@ pub record StopsBefore (fails : List ℕ) (place limit n : ℕ) : Type 0 where
 abbrev pub without : ℕ → List ℕ → List ℕ
 without place fails = filter (λ p. not (p == place)) fails
 
--- A read fails exactly at a place that is to fail, and that place has failed then. Else it gives up to a piece, and goes past no such place.
+-- A read fails exactly at a place that is to fail, which has failed then, and nothing is given. Else it gives up to a piece, and goes past no such place.
 pub record ReadsUpTo {E : Type 0} (old new : MemSource) (room : ℕ) (result : Result ℕ E) : Type 0 where
   pub failed : IsErr result ↔ Contains (source_fails old) (source_place old)
   pub once : OnErr result (source_fails new ≡ without (source_place old) (source_fails old))
+  pub counted : OnErr result (RoseByOne (source_faults old) (source_faults new))
+  pub stays : OnErr result (source_place new ≡ source_place old)
   pub given : IfOk result (λ n. StopsBefore (source_fails old) (source_place old) (min (min room (length (source_left old))) (source_piece old)) n)
   pub place : IfOk result (λ n. source_place new ≡ source_place old + n)
   pub fails : OnOk result (source_fails new ≡ source_fails old)
+  pub piece : source_piece new ≡ source_piece old
 
 -- A write fails exactly at a place that is to fail, which has failed then, and each time where the sink is full. Else it takes what goes past neither.
 pub record WritesUpTo {E : Type 0} (old new : MemSink) (piece : List ℕ) (result : Result ℕ E) : Type 0 where
   pub failed : IsErr result ↔ (Contains (sink_fails old) (length (sink_bytes old)) ⊎ (length (sink_bytes old) ≡ sink_room old))
   pub once : OnErr result (sink_fails new ≡ without (length (sink_bytes old)) (sink_fails old))
+  pub counted : OnErr result (RoseByOne (sink_faults old) (sink_faults new))
   pub taken : IfOk result (λ n. StopsBefore (sink_fails old) (length (sink_bytes old)) (min (length piece) (sink_room old - length (sink_bytes old))) n)
   pub fails : OnOk result (sink_fails new ≡ sink_fails old)
   pub room : sink_room new ≡ sink_room old

@@ -1,6 +1,6 @@
 //! Streams over memory, for tests and for jobs at hand.
 
-ghost use Rattle.std.specs.Prelude.{◌≡◌, ◌<◌, ◌≤◌, ◌+◌, ◌-◌, ◌^◌, ◌⊎◌, ◌↔◌, ℕ, [], ◌∷◌, ◌++◌, Some, None, All, Contains, length, take, drop, vec_len, vec_capacity, IsTrue, IfOk, IsOk, OnOk};
+ghost use Rattle.std.specs.Prelude.{◌≡◌, ◌<◌, ◌≤◌, ◌+◌, ◌-◌, ◌^◌, ◌⊎◌, ◌↔◌, ℕ, [], ◌∷◌, ◌++◌, Some, None, All, Contains, length, take, drop, vec_len, vec_capacity, IsTrue, IfOk, IsOk, IsOkAnd, OnOk, min};
 ghost use Rattle.std.specs.Io.{ReadsAtMost};
 ghost use Rattle.std.specs.Io.KnownBytes.{ReadConsumes, WriteAppends};
 ghost use Rattle.mt_port.specs.Causes.{HasCause};
@@ -40,11 +40,18 @@ impl PlainSource {
 }
 
 impl Source for PlainSource {
+    ghost use Rattle.mt_port.specs.Memory.{plain_left};
+
     ghost left = { λ s. Some (drop s.given s.bytes.items) };
 
     ghost faults = { λ _. 0 };
 
-    fn read(&mut self, buf: &mut [u8]) -> Result<usize, Failed> {
+    fn read(&mut self, buf: &mut [u8]) -> Result<usize, Failed>
+        ensures bound { ReadsAtMost result buf.new }
+        ensures bytes { ReadConsumes (Some (plain_left self.old)) (Some (plain_left self.new)) result buf.new }
+        ensures cause { HasCause 0 0 result }
+        ensures most { IsOkAnd result (λ n. n ≡ min (length buf.old) (length (plain_left self.old))) }
+    {
         let count = buf.len().min(self.bytes.len() - self.given);
         give(&self.bytes, self.given, buf, count);
         self.given += count;
@@ -200,7 +207,12 @@ impl Sink for NullSink {
 
     ghost faults = { λ _. 0 };
 
-    fn write(&mut self, piece: &[u8]) -> Result<usize, Failed> {
+    fn write(&mut self, piece: &[u8]) -> Result<usize, Failed>
+        ensures bound { TakesSome result piece.now }
+        ensures bytes { WriteAppends None None result piece.now }
+        ensures cause { HasCause 0 0 result }
+        ensures all { IsOkAnd result (λ n. n ≡ length piece.now) }
+    {
         Ok(piece.len())
     }
 }

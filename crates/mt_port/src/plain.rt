@@ -1,6 +1,6 @@
 //! A sound board for tests, with a tape of its accesses.
 
-ghost use Rattle.std.specs.Prelude.{◌≡◌, ◌<◌, ◌≤◌, ◌+◌, ◌-◌, ◌^◌, ℕ, List, Some, None, All, length, replicate, IfOk, false, [], ◌∷◌, drop};
+ghost use Rattle.std.specs.Prelude.{◌≡◌, ◌<◌, ◌≤◌, ◌+◌, ◌-◌, ◌^◌, ℕ, List, Some, None, All, length, replicate, IfOk, false, true, [], ◌∷◌, drop};
 ghost use Rattle.std.specs.Option.{option_copied};
 ghost use Rattle.mt_word.specs.Word.{Fits, width_bits};
 
@@ -75,8 +75,13 @@ impl PlainBoard {
 
 #[tactic(auto, using(mt_fault::proofs::PlainMemory::plain_write, mt_fault::proofs::PlainMemory::plain_read))]
 impl Port for PlainBoard {
-    ghost use Rattle.std.specs.Prelude.{None};
+    ghost use Rattle.std.specs.Prelude.{None, slice_index};
     ghost use Rattle.mt_fault.proofs.PlainMemory.{plain_still};
+    ghost use Rattle.mt_fault.specs.History.{Read, Write};
+    ghost use Rattle.mt_port.specs.declared.board.Touch.{Touch};
+    ghost use Rattle.mt_port.specs.Board.{after, answered};
+    ghost use Rattle.mt_port.specs.PlainBoard.{plain_state, plain_tape};
+    ghost use Rattle.mt_port.specs.Tape.{recorded};
 
     ghost state = { λ b. record { shape = b.shape; fault = None; words = b.words.items; flash = b.flash.items; held = b.held; count = b.count; left = b.left.items; taken = b.taken } };
 
@@ -92,19 +97,42 @@ impl Port for PlainBoard {
         self.held = false;
     }
 
-    fn read(&mut self, addr: u32) -> u64 {
+    fn read(&mut self, addr: u32) -> u64
+        requires held { (plain_state self.old).held ≡ true }
+        requires inside { addr < (plain_state self.old).shape.ram }
+        requires room { (plain_state self.old).count < 2 ^ 32 - 1 }
+        ensures word { result ≡ answered (plain_state self.old).fault (plain_state self.old).words addr }
+        ensures fits { Fits (plain_state self.old).shape.width result }
+        ensures state { plain_state self.new ≡ record (plain_state self.old) { words = after (plain_state self.old).fault (plain_state self.old).words (Read addr); count = (plain_state self.old).count + 1 } }
+        ensures tape { plain_tape self.new ≡ recorded (plain_tape self.old) (Touch.Read addr) }
+    {
         self.count += 1;
         self.tape.add(Touch::Read { addr });
         self.words[addr as usize]
     }
 
-    fn write(&mut self, addr: u32, word: u64) {
+    fn write(&mut self, addr: u32, word: u64)
+        requires held { (plain_state self.old).held ≡ true }
+        requires inside { addr < (plain_state self.old).shape.ram }
+        requires fits { Fits (plain_state self.old).shape.width word }
+        requires room { (plain_state self.old).count < 2 ^ 32 - 1 }
+        ensures state { plain_state self.new ≡ record (plain_state self.old) { words = after (plain_state self.old).fault (plain_state self.old).words (Write addr word); count = (plain_state self.old).count + 1 } }
+        ensures tape { plain_tape self.new ≡ recorded (plain_tape self.old) (Touch.Write addr word) }
+    {
         self.count += 1;
         self.tape.add(Touch::Write { addr, word });
         self.words[addr as usize] = word;
     }
 
-    fn flash_read(&mut self, addr: u32) -> u64 {
+    fn flash_read(&mut self, addr: u32) -> u64
+        requires held { (plain_state self.old).held ≡ true }
+        requires inside { addr < (plain_state self.old).shape.flash }
+        requires room { (plain_state self.old).count < 2 ^ 32 - 1 }
+        ensures word { result ≡ slice_index (plain_state self.old).flash addr }
+        ensures fits { Fits (plain_state self.old).shape.width result }
+        ensures state { plain_state self.new ≡ record (plain_state self.old) { count = (plain_state self.old).count + 1 } }
+        ensures tape { plain_tape self.new ≡ recorded (plain_tape self.old) (Touch.Flash addr) }
+    {
         self.count += 1;
         self.tape.add(Touch::Flash { addr });
         self.flash[addr as usize]

@@ -1,4 +1,4 @@
-use Rattle.std.proofs.Common.{◌==◌, not, rules, ℕ, Bool}
+use Rattle.std.proofs.Common.{◌==◌, not, rules}
 use Rattle.std.proofs.lemmas.Fn.{filter_same}
 use Rattle.mt_port.proofs.places.fail_at.Goals as goal
 

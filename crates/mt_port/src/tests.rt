@@ -1,0 +1,185 @@
+// What no clause says: failures of a reader and of a writer, and values that were worked out by hand.
+#![tactic(auto, unfolding(crate::specs::Board::powered_up))]
+
+use crate::{
+    Failed, MemSink, MemSource, NullSink, PlainBoard, PlainSource, Port, Shape, Sink, Source,
+    StdIn, StdOut, Touch, put,
+};
+use mt_word::Width;
+use std::io;
+use std::test::Fail;
+
+// A reader and a writer that fails at its first call. Then a read gives `x`, and a write takes two bytes at most.
+#[derive(Drop)]
+struct FailsFirst {
+    failed: bool,
+}
+
+impl FailsFirst {
+    fn turn(&mut self) -> io::Result<()> {
+        if self.failed {
+            return Ok(());
+        }
+        self.failed = true;
+        Err(io::Error::from(io::ErrorKind::Other))
+    }
+}
+
+impl io::Read for FailsFirst {
+    fn read(&mut self, buf: &mut [u8]) -> io::Result<usize> {
+        self.turn()?;
+        if buf.is_empty() {
+            return Ok(0);
+        }
+        buf[0] = b'x';
+        Ok(1)
+    }
+}
+
+impl io::Write for FailsFirst {
+    fn write(&mut self, buf: &[u8]) -> io::Result<usize> {
+        self.turn()?;
+        Ok(buf.len().min(2))
+    }
+
+    fn flush(&mut self) -> io::Result<()> {
+        Ok(())
+    }
+}
+
+// A writer that takes nothing.
+#[derive(Drop)]
+struct Closed;
+
+impl io::Write for Closed {
+    fn write(&mut self, _: &[u8]) -> io::Result<usize> {
+        Ok(0)
+    }
+
+    fn flush(&mut self) -> io::Result<()> {
+        Ok(())
+    }
+}
+
+#[test]
+fn a_failure_of_the_reader_is_not_hidden(rt: HostRuntime) {
+    let mut source = StdIn::new(FailsFirst { failed: false });
+    let mut buf = [b'-'; 3];
+    assert_eq!(rt; source.read(&mut buf), Err(Failed));
+    assert_eq!(rt; buf, *b"---");
+    assert_eq!(rt; source.read(&mut buf), Ok(1));
+    assert_eq!(rt; buf, *b"x--");
+}
+
+#[test]
+fn a_reader_gives_its_bytes(rt: HostRuntime) {
+    let mut source = StdIn::new(b"abcd".as_slice());
+    let mut buf = [b'-'; 3];
+    assert_eq!(rt; source.read(&mut buf), Ok(3));
+    assert_eq!(rt; buf, *b"abc");
+    assert_eq!(rt; source.read(&mut buf), Ok(1));
+    assert_eq!(rt; buf, *b"dbc");
+    assert_eq!(rt; source.read(&mut buf), Ok(0));
+}
+
+#[test]
+fn a_failure_of_the_writer_is_not_hidden(rt: HostRuntime) {
+    let mut sink = StdOut::new(FailsFirst { failed: false });
+    assert_eq!(rt; sink.write(b"abc"), Err(Failed));
+    assert_eq!(rt; sink.write(b"abc"), Ok(2));
+    assert_eq!(rt; put(&mut sink, b"abc"), Ok(()));
+}
+
+#[test]
+fn a_writer_that_takes_nothing_fails(rt: HostRuntime) {
+    let mut sink = StdOut::new(Closed);
+    assert_eq!(rt; sink.write(b"a"), Err(Failed));
+    assert_eq!(rt; sink.write(b""), Ok(0));
+    assert_eq!(rt; put(&mut sink, b"a"), Err(Failed));
+}
+
+#[test]
+fn a_source_fails_once_at_a_place(rt: HostRuntime) -> Result<(), Fail> {
+    let alloc = rt.alloc();
+    let mut source = MemSource::new(b"abcdef".to_vec(alloc)?, 3, vec![in alloc; 2, 2]?);
+    let mut buf = [b'-'; 8];
+    assert_eq!(rt; source.read(&mut buf), Ok(2));
+    assert_eq!(rt; source.read(&mut buf), Err(Failed));
+    assert_eq!(rt; buf, *b"ab------");
+    assert_eq!(rt; source.read(&mut buf), Ok(3));
+    assert_eq!(rt; buf, *b"cde-----");
+    assert_eq!(rt; source.read(&mut buf), Ok(1));
+    assert_eq!(rt; source.read(&mut buf), Ok(0));
+    Ok(())
+}
+
+#[test]
+fn a_plain_source_fills_the_room(rt: HostRuntime) -> Result<(), Fail> {
+    let mut source = PlainSource::new(b"abc".to_vec(rt.alloc())?);
+    let mut buf = [b'-'; 2];
+    assert_eq!(rt; source.read(&mut buf), Ok(2));
+    assert_eq!(rt; buf, *b"ab");
+    assert_eq!(rt; source.read(&mut buf), Ok(1));
+    assert_eq!(rt; buf, *b"cb");
+    assert_eq!(rt; source.read(&mut buf), Ok(0));
+    Ok(())
+}
+
+#[test]
+fn a_sink_holds_what_it_has_room_for(rt: HostRuntime) -> Result<(), Fail> {
+    let alloc = rt.alloc();
+    let mut sink = MemSink::new(alloc, 3, Vec::new(alloc))
+        .ok()
+        .ok_or("memory")?;
+    assert_eq!(rt; put(&mut sink, b"abcd"), Err(Failed));
+    assert_eq!(rt; sink.bytes(), b"abc".as_slice());
+    assert_eq!(rt; put(&mut sink, b""), Ok(()));
+    Ok(())
+}
+
+#[test]
+fn a_sink_fails_once_at_a_place(rt: HostRuntime) -> Result<(), Fail> {
+    let alloc = rt.alloc();
+    let mut sink = MemSink::new(alloc, 9, vec![in alloc; 2]?)
+        .ok()
+        .ok_or("memory")?;
+    assert_eq!(rt; sink.write(b"abcd"), Ok(2));
+    assert_eq!(rt; sink.write(b"cd"), Err(Failed));
+    assert_eq!(rt; sink.write(b"cd"), Ok(2));
+    assert_eq!(rt; sink.bytes(), b"abcd".as_slice());
+    Ok(())
+}
+
+#[test]
+fn a_null_sink_takes_all(rt: HostRuntime) {
+    let mut sink = NullSink::new();
+    assert_eq!(rt; sink.write(b"abc"), Ok(3));
+    assert_eq!(rt; sink.write(b""), Ok(0));
+}
+
+#[test]
+fn a_plain_board_counts_and_tapes_its_accesses(rt: HostRuntime) -> Result<(), Fail> {
+    let shape = Shape {
+        width: Width::W8,
+        ram: 10,
+        flash: 2,
+    };
+    let mut board = PlainBoard::new(rt.alloc(), shape, 0)?;
+    board.hold();
+    assert_eq!(rt; board.read(9), 0);
+    assert_eq!(rt; board.made(), 1);
+    board.write(9, 0x5a);
+    assert_eq!(rt; board.read(9), 0x5a);
+    assert_eq!(rt; board.flash_read(1), 0xff);
+    let touches = [
+        Touch::Read { addr: 9 },
+        Touch::Write {
+            addr: 9,
+            word: 0x5a,
+        },
+        Touch::Read { addr: 9 },
+        Touch::Flash { addr: 1 },
+    ];
+    assert_eq!(rt; board.tape(), Some(touches.as_slice()));
+    Ok(())
+}
