@@ -16,6 +16,7 @@ pub sound_with : (stores : Option Stores) (held : Bool) (count : ℕ) (later : L
 sound_with None held count later taken few = record {
   sized = refl;
   limit = lit≤ tt;
+  flash_limit = lit≤ tt;
   memory = sound_fresh W8 0 0 (lit< tt);
   flash_sized = refl;
   flash_fit = All-nil (λ w. Fits W8 w);
@@ -24,6 +25,7 @@ sound_with None held count later taken few = record {
 sound_with (Some s) held count later taken few = record {
   sized = s.sized;
   limit = s.limit;
+  flash_limit = s.flash_limit;
   memory = s.sound;
   flash_sized = refl;
   flash_fit = s.flash_fit;

@@ -6,7 +6,7 @@ use Rattle.std.proofs.lemmas.Grind.{flat_map-append}
 use Rattle.std.specs.Prelude.{flat_map, min}
 use Rattle.std.specs.Io.KnownBytes.{Appends}
 use Rattle.mt_port.specs.Streams.{AppendsFront}
-use Rattle.mt_port.proofs.StreamLemmas.{Appends-trans}
+use Rattle.mt_port.proofs.StreamLemmas.{Appends-trans, AppendsFront-after, AppendsFront-more}
 
 -- five parts, one after another
 pub five_parts : (out first second third fourth last a b c d e : List ℕ) → first ≡ out ++ a → second ≡ first ++ b → third ≡ second ++ c → fourth ≡ third ++ d → last ≡ fourth ++ e
@@ -18,17 +18,6 @@ pub one_more : {X : Type 0} (text : X → List ℕ) (items : List X) (i : ℕ) (
     → flat_map text (take (i + 1) items) ≡ flat_map text (take i items) ++ text item
 one_more text items i item d less is =
     ap (flat_map text) (take_more items i d less) ∙ flat_map-append text (take i items) (get_or items i d ∷ []) ∙ ap (λ l. flat_map text (take i items) ++ l) (append-nil (text (get_or items i d)) ∙ ap text (sym is))
-
--- a whole text, and then a front of another
-pub AppendsFront-after : (a b c : Option (List ℕ)) (text more : List ℕ) → Appends a b text → AppendsFront b c more → AppendsFront a c (text ++ more)
-AppendsFront-after a b c text more p q =
-    (length text + q.0, subst (Appends a c) (sym (take-append-add text more q.0)) (Appends-trans a b c text (take q.0 more) p q.1))
-
--- a front of a text is one of a longer text
-pub AppendsFront-more : (a b : Option (List ℕ)) (text more : List ℕ) → AppendsFront a b text → AppendsFront a b (text ++ more)
-AppendsFront-more a b text more p =
-    let k = min p.0 (length text) in
-    (k, subst (Appends a b) (sym (take-append-le k text more (omega arith) ∙ take_min p.0 text)) p.1)
 
 -- the items up to a place, and those from it on
 pub all_parts : {X : Type 0} (text : X → List ℕ) (items : List X) (i : ℕ) → flat_map text (take i items) ++ flat_map text (drop i items) ≡ flat_map text items

@@ -23,6 +23,7 @@ pub struct PlainBoard {
     taken: u8,
     tape: Tape,
     ghost limit: { shape.ram ≤ 65536 },
+    ghost flash_limit: { shape.flash ≤ 65536 },
     ghost sized: { length words.items ≡ shape.ram },
     ghost fit: { All (λ w. Fits shape.width w) words.items },
     ghost flash_sized: { length flash.items ≡ shape.flash },
@@ -87,7 +88,7 @@ impl Port for PlainBoard {
 
     ghost tape = { λ b. b.tape };
 
-    ghost sound = { λ b. record { sized = b.sized; limit = b.limit; memory = record { fits = λ a inside. b.fit a 0 inside; placed = tt; settled = plain_still b.words.items }; flash_sized = b.flash_sized; flash_fit = b.flash_fit; few = b.few } };
+    ghost sound = { λ b. record { sized = b.sized; limit = b.limit; flash_limit = b.flash_limit; memory = record { fits = λ a inside. b.fit a 0 inside; placed = tt; settled = plain_still b.words.items }; flash_sized = b.flash_sized; flash_fit = b.flash_fit; few = b.few } };
 
     fn hold(&mut self) {
         self.held = true;

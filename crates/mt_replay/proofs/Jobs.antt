@@ -5,7 +5,7 @@ use Rattle.std.specs.Io.KnownBytes.{prepend_known, Appends}
 use Rattle.mt_port.specs.Streams.{WhereTold, AppendsFront}
 use Rattle.mt_port.specs.Board.{Board}
 use Rattle.mt_port.specs.declared.board.Touch.{Touch}
-use Rattle.mt_port.proofs.StreamLemmas.{Appends-trans}
+use Rattle.mt_port.proofs.StreamLemmas.{Appends-trans, AppendsFront-after, WhereTold-map}
 use Rattle.mt_fault.specs.declared.fault.Fault.{Fault as MemoryFault}
 use Rattle.mt_conf.specs.declared.config.Config.{Config}
 use Rattle.mt_replay.specs.declared.refused.Refused.{Refused}
@@ -26,7 +26,6 @@ use Rattle.mt_replay.specs.Run.{UsesBoard, Ends, Breaks, Stops}
 use Rattle.mt_replay.specs.Replay.{outcomes, IsFound, IsStart, HasScript, FoundGives, Begins, BeginsEmpty, HeadFails, Concluded, TakenGive, JobGives, empty_text, empty_after, EmptyGives, StatusCaused, Told}
 use Rattle.mt_replay.proofs.Forms.{scripted-as, board-is}
 use Rattle.mt_replay.proofs.Runs.{change}
-use Rattle.mt_replay.proofs.Texts.{AppendsFront-after, WhereTold-map}
 
 -- what is left before and between, and between and after
 pub told_through : (a b : Option (List ℕ)) (held : List ℕ) (left : Option (List ℕ)) {P : List ℕ → List ℕ → Type 0} (Q : List ℕ → List ℕ → Type 0) {R : List ℕ → List ℕ → Type 0}

@@ -5,7 +5,7 @@ use Rattle.std.proofs.lemmas.Bool.{le-ltb, lt-ltb}
 use Rattle.mt_port.specs.Streams.{WhereTold}
 use Rattle.mt_port.specs.Board.{Board}
 use Rattle.mt_port.specs.declared.board.Touch.{Touch}
-use Rattle.mt_port.proofs.StreamLemmas.{Appends-nil, Appends-trans, WhereTold-then}
+use Rattle.mt_port.proofs.StreamLemmas.{Appends-nil, Appends-trans, WhereTold-then, AppendsFront-after, Logs-nil, Logs-append, WhereTold-map}
 use Rattle.mt_replay.specs.declared.form.Task.{Task}
 use Rattle.mt_replay.specs.declared.input.Line.TheVariants as line
 use Rattle.mt_replay.specs.declared.run.Fault.{Fault}
@@ -23,7 +23,6 @@ use Rattle.mt_replay.specs.Run.{Change, UsesBoard, LineGives, EndGives, Crosses,
 use Rattle.std.specs.Io.KnownBytes.{prepend_known}
 use Rattle.mt_replay.proofs.Feeds.{feed_or_not}
 use Rattle.mt_replay.proofs.Lines.{cut-line, cut-rest, Filled}
-use Rattle.mt_replay.proofs.Texts.{AppendsFront-after, Logs-nil, Logs-append, WhereTold-map}
 
 abbrev pub change : (left left' held held' : Option (List ℕ)) (tape tape' : Option (List Touch)) → Change
 change left left' held held' tape tape' = record { left = left; left' = left'; held = held; held' = held'; tape = tape; tape' = tape' }

@@ -6,7 +6,7 @@ use Rattle.std.specs.Result.{OnErr}
 use Rattle.mt_port.specs.Streams.{AppendsFront, WhereTold}
 use Rattle.mt_port.specs.declared.board.Touch.{Touch}
 use Rattle.mt_port.specs.Board.{Logs}
-use Rattle.mt_port.proofs.StreamLemmas.{Appends-nil, Appends-trans}
+use Rattle.mt_port.proofs.StreamLemmas.{Appends-nil, Appends-trans, AppendsFront-after, AppendsFront-more}
 use Rattle.std.proofs.lemmas.List.{take-append-le, take_min}
 use Rattle.std.specs.Prelude.{min}
 use Rattle.mt_text.proofs.TraceLemmas.{more_entries}
@@ -22,37 +22,10 @@ pub entries_text-one : (width : Width) (number : ℕ) (entry : Entry) → entrie
 unfolding entries_text
 entries_text-one width number entry = append-nil (entry_text width number entry)
 
--- a whole text, and then a front of another
-pub AppendsFront-after : (a b c : Option (List ℕ)) (text more : List ℕ) → Appends a b text → AppendsFront b c more → AppendsFront a c (text ++ more)
-AppendsFront-after a b c text more p q =
-    (length text + q.0, subst (Appends a c) (sym (take-append-add text more q.0)) (Appends-trans a b c text (take q.0 more) p q.1))
-
-pub Logs-nil : (told : Option (List Touch)) → Logs told told []
-Logs-nil None = tt
-Logs-nil (Some xs) = sym (append-nil xs)
-
-pub Logs-append : (a b c : Option (List Touch)) (xs ys : List Touch) → Logs a b xs → Logs b c ys → Logs a c (xs ++ ys)
-Logs-append a b None xs ys p q = tt
-Logs-append a None (Some z) xs ys p q = absurd q
-Logs-append None (Some y) (Some z) xs ys p q = absurd p
-Logs-append (Some x) (Some y) (Some z) xs ys p q = q ∙ ap (λ (l : List Touch). l ++ ys) p ∙ append_assoc x xs ys
-
--- what is told of one relation is told of a weaker one
-pub WhereTold-map : (a b : Option (List ℕ)) {P Q : List ℕ → List ℕ → Type 0} → WhereTold a b P → ((x y : List ℕ) → P x y → Q x y) → WhereTold a b Q
-WhereTold-map None b p f = tt
-WhereTold-map (Some x) None p f = absurd p
-WhereTold-map (Some x) (Some y) p f = f x y p
-
 -- what holds anyway holds of an error
 pub OnErr-any : {T E X : Type 0} (r : Result T E) → X → OnErr r X
 OnErr-any (Ok x) h = tt
 OnErr-any (Err e) h = h
-
--- a front of a text is one of a longer text
-pub AppendsFront-more : (a b : Option (List ℕ)) (text more : List ℕ) → AppendsFront a b text → AppendsFront a b (text ++ more)
-AppendsFront-more a b text more p =
-    let k = min p.0 (length text) in
-    (k, subst (Appends a b) (sym (take-append-le k text more (omega arith) ∙ take_min p.0 text)) p.1)
 
 -- ---- entries that are written one after another
 

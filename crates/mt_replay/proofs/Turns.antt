@@ -6,7 +6,7 @@ use Rattle.mt_text.specs.declared.line.Line.{Line}
 use Rattle.mt_text.specs.Lines.{line_of}
 use Rattle.mt_text.specs.Trace.{entries_text}
 use Rattle.mt_window.specs.declared.log.Entry.{Entry}
-use Rattle.mt_port.proofs.StreamLemmas.{Appends-trans}
+use Rattle.mt_port.proofs.StreamLemmas.{Appends-trans, AppendsFront-after, Logs-append}
 use Rattle.mt_replay.specs.declared.form.Task.{Task}
 use Rattle.mt_replay.specs.declared.run.Fault.{Fault}
 use Rattle.mt_replay.specs.declared.run.Fault.TheVariants as fault
@@ -23,7 +23,7 @@ use Rattle.std.specs.Io.KnownBytes.{Appends}
 use Rattle.mt_port.specs.Streams.{AppendsFront}
 use Rattle.mt_replay.specs.declared.status.Status.{Status}
 use Rattle.mt_replay.specs.Run.{Change, Judging, Answered, SinkCaused, LineGives, EndGives}
-use Rattle.mt_replay.proofs.Texts.{AppendsFront-after, Logs-append, entries_text-nil}
+use Rattle.mt_replay.proofs.Texts.{entries_text-nil}
 
 -- a line that is judged otherwise, but alike
 pub LineGives-same : (r : Result Turn Fault) (j k : Judging) (m' : Machine) (x : Change) → ((follow : Machine → Run) → k follow ≡ j follow) → LineGives r j m' x → LineGives r k m' x

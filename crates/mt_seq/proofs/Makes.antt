@@ -1,5 +1,5 @@
 -- Accesses that are made one after another.
-use Rattle.std.proofs.Common.{ℕ, zero, suc, add-one, ◌+◌, ◌<◌, ◌≡◌, Bool, true, List, [], ◌∷◌, ◌++◌, map, take, length, get_or, Option, Some, None, refl, sym, ap, ◌∙◌, subst, arith, append_assoc, length-append, append-nil}
+use Rattle.std.proofs.Common.{ℕ, zero, suc, add-one, ◌+◌, ◌<◌, ◌≡◌, Bool, true, List, [], ◌∷◌, ◌++◌, map, take, length, get_or, Option, Some, refl, sym, ap, ◌∙◌, subst, arith, length-append, append-nil}
 use Rattle.std.specs.Prelude.{All, slice_get}
 use mathlib.Core.Bool.{◌&&◌}
 use Rattle.std.proofs.lemmas.List.{map-append, map_more}
@@ -9,21 +9,12 @@ use Rattle.std.proofs.lemmas.List.Elements.{All-append, All-cons, All-nil}
 use Rattle.mt_fault.specs.Faulty.{words_after}
 use Rattle.mt_fault.proofs.Spans.{words_cut, length-words_after}
 use Rattle.mt_port.specs.declared.board.Touch.{Touch}
+use Rattle.mt_port.proofs.StreamLemmas.{Logs-nil, Logs-append}
 use Rattle.mt_port.specs.Board.{Board, IsSound, Logs}
 use Rattle.mt_fault.specs.Items.{Item, place, access_of, history, agrees, passes}
 use Rattle.mt_seq.specs.Tape.{touch_of}
 use Rattle.mt_fault.proofs.ItemLemmas.{history-append, passes-append, passes_cut, both, and_true}
 use Rattle.mt_seq.specs.Makes.{Makes}
-
-pub Logs-nil : (told : Option (List Touch)) → Logs told told []
-Logs-nil None = tt
-Logs-nil (Some xs) = sym (append-nil xs)
-
-pub Logs-append : (a b c : Option (List Touch)) (xs ys : List Touch) → Logs a b xs → Logs b c ys → Logs a c (xs ++ ys)
-Logs-append a b None xs ys p q = tt
-Logs-append a None (Some z) xs ys p q = absurd q
-Logs-append None (Some y) (Some z) xs ys p q = absurd p
-Logs-append (Some x) (Some y) (Some z) xs ys p q = q ∙ ap (λ l. l ++ ys) p ∙ append_assoc x xs ys
 
 board-is : (a b : Board) (ws vs : List ℕ) (m n : ℕ) → b ≡ record a { words = ws; count = m } → ws ≡ vs → m ≡ n → b ≡ record a { words = vs; count = n }
 board-is a b ws vs m n e f g = cc

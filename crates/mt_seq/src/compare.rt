@@ -31,8 +31,6 @@ fn compare<P: Port>(port: &mut P, first: u32, copy: u32, n: u8) -> Option<u32>
     ensures state { P.state port.new ≡ record (P.state port.old) { count = (P.state port.old).count + compare_hold n } }
     ensures tape { Logs (P.tape port.old) (P.tape port.new) (compare_touches first copy n) }
 {
-    // The size of the flash fits its type, and so does each address below it.
-    let _flash = port.shape().flash;
     let mut found = None;
     for cell in 0..n {
         let addr = first + u32::from(cell);

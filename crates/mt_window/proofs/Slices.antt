@@ -1,7 +1,8 @@
 -- What is left to do of slices, as they are tested one after another.
-use Rattle.std.proofs.Common.{◌≡◌, Bool, true, false, cond, List, [], ◌∷◌, ◌++◌, Option, Some, None, refl, sym, ap, ◌∙◌, subst, append_assoc, append-nil}
+use Rattle.std.proofs.Common.{◌≡◌, Bool, true, false, cond, List, [], ◌∷◌, ◌++◌, Option, refl, sym, ap, ◌∙◌, subst, append_assoc, append-nil}
 use Rattle.mt_port.specs.declared.board.Touch.{Touch}
 use Rattle.mt_port.specs.Board.{Logs}
+use Rattle.mt_port.proofs.StreamLemmas.{Logs-nil, Logs-append}
 use Rattle.mt_window.specs.Serving.{Scene}
 use Rattle.mt_window.specs.Slices.{Tests, tested, failed_after, slices, touches}
 
@@ -10,16 +11,6 @@ pub record Recorded (told now : Option (List Touch)) (left all : List Touch) : T
   pub done : List Touch
   pub whole : all ≡ done ++ left
   pub logs : Logs told now done
-
-pub Logs-nil : (told : Option (List Touch)) → Logs told told []
-Logs-nil None = tt
-Logs-nil (Some xs) = sym (append-nil xs)
-
-pub Logs-append : (a b c : Option (List Touch)) (xs ys : List Touch) → Logs a b xs → Logs b c ys → Logs a c (xs ++ ys)
-Logs-append a b None xs ys p q = tt
-Logs-append a None (Some z) xs ys p q = absurd q
-Logs-append None (Some y) (Some z) xs ys p q = absurd p
-Logs-append (Some x) (Some y) (Some z) xs ys p q = q ∙ ap (λ (l : List Touch). l ++ ys) p ∙ append_assoc x xs ys
 
 pub Recorded-none : (told : Option (List Touch)) (all : List Touch) → Recorded told told all all
 Recorded-none told all = record { done = []; whole = refl; logs = Logs-nil told }

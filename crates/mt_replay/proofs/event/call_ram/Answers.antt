@@ -2,7 +2,7 @@ use Rattle.std.proofs.Common.{◌∙◌, ap, sym, subst, Option}
 use Rattle.mt_replay.specs.declared.event.Running.{Running}
 use Rattle.mt_port.specs.Board.{Logs}
 use Rattle.mt_replay.specs.Machine.{Machine, Step, service_of, by_service}
-use Rattle.mt_replay.proofs.Texts.{Logs-nil}
+use Rattle.mt_port.proofs.StreamLemmas.{Logs-nil}
 use Rattle.mt_replay.proofs.Services.{does_call}
 use Rattle.mt_replay.proofs.event.call_ram.Goals as goal
 

@@ -1,9 +1,8 @@
 use Rattle.std.proofs.Common.{[], ap}
-use Rattle.mt_port.proofs.StreamLemmas.{Appends-nil}
+use Rattle.mt_port.proofs.StreamLemmas.{Appends-nil, Logs-nil}
 use Rattle.mt_replay.specs.declared.form.Form.{Form}
 use Rattle.mt_replay.specs.Machine.{Machine}
 use Rattle.mt_replay.specs.Outcome.{stepped, reaction}
-use Rattle.mt_replay.proofs.Texts.{Logs-nil}
 use Rattle.mt_replay.proofs.Turns.{LineGives-same}
 use Rattle.mt_replay.proofs.run.answer_line.Goals as goal
 

@@ -1,9 +1,9 @@
 use Rattle.std.proofs.Common.{sym, subst}
 use Rattle.std.specs.Io.KnownBytes.{Appends}
 use Rattle.mt_port.specs.Streams.{AppendsFront}
-use Rattle.mt_port.proofs.StreamLemmas.{Appends-trans}
+use Rattle.mt_port.proofs.StreamLemmas.{Appends-trans, AppendsFront-after, AppendsFront-more}
 use Rattle.mt_window.specs.declared.log.Entry.TheVariants.{Own}
-use Rattle.mt_replay.proofs.Texts.{AppendsFront-after, AppendsFront-more, entries_text-then}
+use Rattle.mt_replay.proofs.Texts.{entries_text-then}
 use Rattle.mt_replay.proofs.run.write_answer.Goals as goal
 
 pub returns-in-Ok-write_entry-clause-ok : goal.returns-in-Ok-write_entry-clause-ok

@@ -4,7 +4,8 @@ use Rattle.std.proofs.lemmas.List.{length-drop, length-take-le}
 use Rattle.mt_port.specs.Board.{Logs}
 use Rattle.mt_window.specs.Serving.{scene}
 use Rattle.mt_window.specs.Slices.{slices, touches}
-use Rattle.mt_window.proofs.Slices.{Logs-nil, Reaches, reaches-step, reaches-stopped}
+use Rattle.mt_port.proofs.StreamLemmas.{Logs-nil}
+use Rattle.mt_window.proofs.Slices.{Reaches, reaches-step, reaches-stopped}
 use Rattle.mt_blocks.specs.Slices.{Piece, from_place, piece_at}
 use Rattle.mt_blocks.specs.Groups.{group_len}
 use Rattle.mt_blocks.specs.Accepted.{IsAcceptedFls}
