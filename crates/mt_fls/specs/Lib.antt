@@ -3,3 +3,4 @@ pub mod Table
 pub mod Event
 pub mod Kept
 pub mod Laws
+pub mod Example

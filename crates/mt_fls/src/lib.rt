@@ -10,3 +10,6 @@ mod state;
 
 pub use laws::{handlers_leave_results, services_leave_setting, waits_of_running_calls};
 pub use state::{Back, Fls, State};
+
+#[cfg(test)]
+mod tests;
