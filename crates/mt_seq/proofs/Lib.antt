@@ -1,4 +1,5 @@
 pub mod Comparison
+pub mod Elements
 pub mod Lengths
 pub mod Makes
 pub mod Sound

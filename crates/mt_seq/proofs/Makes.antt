@@ -2,7 +2,10 @@
 use Rattle.std.proofs.Common.{ℕ, zero, suc, add-one, ◌+◌, ◌<◌, ◌≡◌, Bool, true, List, [], ◌∷◌, ◌++◌, map, take, length, get_or, Option, Some, refl, sym, ap, ◌∙◌, subst, arith, length-append, append-nil}
 use Rattle.std.specs.Prelude.{All, slice_get}
 use mathlib.Core.Bool.{◌&&◌}
+use Rattle.std.specs.List.{flat_map}
+use Rattle.std.proofs.Math.Seq.{take-suc}
 use Rattle.std.proofs.lemmas.List.{map-append, map_more}
+use Rattle.std.proofs.lemmas.List.Concat.{flat_map-append}
 use Rattle.std.proofs.lemmas.Option.{slice_get_within}
 use Rattle.mt_plan.specs.Lists.{cells}
 use Rattle.std.proofs.lemmas.List.Elements.{All-append, All-cons, All-nil}
@@ -79,6 +82,18 @@ Makes-more f xs i x {a} {b} {c} {ta} {tb} {tc} {p} {q} sound at first second =
     get_of [] i x h = cc
     get_of (y ∷ xs) zero x h = cc
     get_of (y ∷ xs) (suc i) x h = get_of xs i x h
+
+-- one more piece of a list that is made of pieces
+pub Makes-piece : {X Y : Type 0} (f : Y → Item) (piece : X → List Y) (xs : List X) (i : ℕ) (x : X) {a b c : Board} {ta tb tc : Option (List Touch)} {p q : Bool}
+    → IsSound a → i < length xs → get_or xs i x ≡ x → Makes (map f (flat_map piece (take i xs))) a b ta tb p → Makes (map f (piece x)) b c tb tc q
+    → Makes (map f (flat_map piece (take (i + 1) xs))) a c ta tc (p && q)
+Makes-piece {X} {Y} f piece xs i x {a} {b} {c} {ta} {tb} {tc} {p} {q} sound within here first second =
+    let more : flat_map piece (take (i + 1) xs) ≡ flat_map piece (take i xs) ++ piece x =
+    ap (λ (k : ℕ). flat_map piece (take k xs)) (add-one i)
+    ∙ ap (flat_map piece) (take-suc xs i x within)
+    ∙ flat_map-append piece (take i xs) (get_or xs i x ∷ [])
+    ∙ ap (λ (l : List Y). flat_map piece (take i xs) ++ l) (append-nil (piece (get_or xs i x)) ∙ ap piece here) in
+    subst (λ l. Makes l a c ta tc (p && q)) (sym (ap (map f) more ∙ map-append f (flat_map piece (take i xs)) (piece x))) (Makes-append sound first second)
 
 -- one more cell
 pub Makes-cell : (f : ℕ → Item) (n : ℕ) {a b c : Board} {ta tb tc : Option (List Touch)} {p q : Bool}

@@ -3,6 +3,7 @@
 
 mod compare;
 mod laws;
+mod march;
 mod sequence;
 mod step;
 

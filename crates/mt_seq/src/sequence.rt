@@ -8,6 +8,7 @@ ghost use Rattle.mt_seq.specs.Makes.{Makes};
 ghost use Rattle.mt_seq.specs.Sequence.{is_transparent, saving, saved_words, testing, ending, accesses_of, verdict_of, sequence_verdict, sequence_words, sequence_touches, sequence_hold, IsSoundJob, IsSoundSlice};
 ghost use Rattle.mt_seq.specs.Laws.{left_words};
 
+use crate::march::run_march;
 use crate::step::{last_at, make_step, write};
 use arrayvec::ArrayVec;
 use mt_plan::{Algorithm, Policy, Steps};
@@ -75,8 +76,8 @@ fn begin<P: Port>(port: &mut P, policy: Policy, slice: Slice, saved: &mut Saved)
     }
 }
 
-// All steps of the algorithm.
-fn test<P: Port>(port: &mut P, width: Width, job: &Job, slice: Slice, saved: &[u64]) -> bool
+// All steps of the algorithm, one after another.
+fn run_steps<P: Port>(port: &mut P, width: Width, job: &Job, slice: Slice, saved: &[u64]) -> bool
     requires held { (P.state port.old).held ≡ true }
     requires width { width ≡ (P.state port.old).shape.width }
     requires accepted { IsAccepted job.now.alg }
@@ -96,6 +97,29 @@ fn test<P: Port>(port: &mut P, width: Width, job: &Job, slice: Slice, saved: &[u
         pass &= good;
     }
     pass
+}
+
+// All steps of the algorithm.
+fn test<P: Port>(port: &mut P, width: Width, job: &Job, slice: Slice, saved: &[u64]) -> bool
+    requires held { (P.state port.old).held ≡ true }
+    requires width { width ≡ (P.state port.old).shape.width }
+    requires accepted { IsAccepted job.now.alg }
+    requires some { 1 ≤ slice.n }
+    requires small { slice.n ≤ 64 }
+    requires inside { slice.first + slice.n ≤ (P.state port.old).shape.ram }
+    requires background { Fits (P.state port.old).shape.width job.now.background }
+    requires all { is_transparent job.now.alg ≡ true → length saved.now ≡ slice.n }
+    requires fit { All (Fits (P.state port.old).shape.width) saved.now }
+    requires room { (P.state port.old).count + length (steps_of job.now.alg slice.n) < 2 ^ 32 }
+    ensures { Makes (testing width job.now slice saved.now (steps_of job.now.alg slice.n)) (P.state port.old) (P.state port.new) (P.tape port.old) (P.tape port.new) result }
+{
+    match &job.alg {
+        Algorithm::March(march) => run_march(port, width, slice, job.background, march),
+        Algorithm::Checkerboard
+        | Algorithm::WalkPath
+        | Algorithm::Galpat
+        | Algorithm::TransparentGalpat => run_steps(port, width, job, slice, saved),
+    }
 }
 
 // Writes each word back, or the fill.

@@ -25,7 +25,7 @@ pub(crate) fn write<P: Port>(port: &mut P, addr: u32, word: u64) -> bool
 }
 
 // One read that is to answer a word.
-fn check<P: Port>(port: &mut P, addr: u32, word: u64) -> bool
+pub(crate) fn check<P: Port>(port: &mut P, addr: u32, word: u64) -> bool
     requires held { (P.state port.old).held ≡ true }
     requires inside { addr < (P.state port.old).shape.ram }
     requires room { (P.state port.old).count + 1 < 2 ^ 32 }

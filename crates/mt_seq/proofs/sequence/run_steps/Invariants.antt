@@ -3,7 +3,7 @@ use Rattle.mt_plan.specs.Plan.{steps_of}
 use Rattle.mt_plan.specs.Cursor.{IsCursor, cells_of, made_by}
 use Rattle.mt_seq.specs.Makes.{Makes}
 use Rattle.mt_seq.specs.Sequence.{item_of, back_of}
-use Rattle.mt_seq.proofs.sequence.test.Given as goal
+use Rattle.mt_seq.proofs.sequence.run_steps.Given as goal
 
 abbrev pub invariant-loop-step : goal.invariant-loop-step
 invariant-loop-step g l = record {
