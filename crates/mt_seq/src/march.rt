@@ -1,9 +1,9 @@
 //! A march on one slice, without a cursor: its background word is one for all cells.
 
-ghost use Rattle.std.specs.Prelude.{◌≡◌, ◌<◌, ◌≤◌, ◌+◌, ◌^◌, [], ◌∷◌, true, map, length};
+ghost use Rattle.std.specs.Prelude.{◌≡◌, ◌<◌, ◌≤◌, ◌+◌, ◌^◌, [], ◌∷◌, true, map, reverse, length};
+ghost use Rattle.std.specs.List.{flat_map};
 ghost use Rattle.mt_word.specs.Word.{complement_of, Fits};
-ghost use Rattle.mt_plan.specs.Lists.{act_of, cells, element_on, march_on};
-ghost use Rattle.mt_plan.specs.Rows.{cell_at};
+ghost use Rattle.mt_plan.specs.Lists.{act_of, cells, ops_on, element_on, march_on};
 ghost use Rattle.mt_seq.specs.Makes.{Makes};
 ghost use Rattle.mt_seq.specs.Sequence.{act_on, item_of};
 
@@ -47,16 +47,40 @@ fn march_cell<P: Port>(port: &mut P, addr: u32, plain: u64, flipped: u64, ops: &
     pass
 }
 
-// The cell at a place of an element's order.
-fn cell_at(order: Order, n: u8, place: u8) -> u8
-    requires { place < n }
-    ensures cell { result ≡ cell_at order n place }
-    ensures inside { result < n }
+// All operations of an element on each cell, from the first one up.
+fn march_up<P: Port>(port: &mut P, slice: Slice, plain: u64, flipped: u64, ops: &[Op]) -> bool
+    requires held { (P.state port.old).held ≡ true }
+    requires inside { slice.first + slice.n ≤ (P.state port.old).shape.ram }
+    requires plain { Fits (P.state port.old).shape.width plain }
+    requires flipped { flipped ≡ complement_of (P.state port.old).shape.width plain }
+    requires room { (P.state port.old).count + length (flat_map (ops_on ops.now) (cells slice.n)) < 2 ^ 32 }
+    ensures { Makes (map (item_of (P.state port.old).shape.width slice.first (λ cell. plain)) (flat_map (ops_on ops.now) (cells slice.n))) (P.state port.old) (P.state port.new) (P.tape port.old) (P.tape port.new) result }
 {
-    match order {
-        Order::Down => n - 1 - place,
-        Order::Up | Order::Either => place,
+    let mut pass = true;
+    for addr in slice.first..slice.first + u32::from(slice.n) {
+        let good = march_cell(port, addr, plain, flipped, ops);
+        pass &= good;
     }
+    pass
+}
+
+// All operations of an element on each cell, from the last one down.
+fn march_down<P: Port>(port: &mut P, slice: Slice, plain: u64, flipped: u64, ops: &[Op]) -> bool
+    requires held { (P.state port.old).held ≡ true }
+    requires inside { slice.first + slice.n ≤ (P.state port.old).shape.ram }
+    requires plain { Fits (P.state port.old).shape.width plain }
+    requires flipped { flipped ≡ complement_of (P.state port.old).shape.width plain }
+    requires room { (P.state port.old).count + length (flat_map (ops_on ops.now) (reverse (cells slice.n))) < 2 ^ 32 }
+    ensures { Makes (map (item_of (P.state port.old).shape.width slice.first (λ cell. plain)) (flat_map (ops_on ops.now) (reverse (cells slice.n)))) (P.state port.old) (P.state port.new) (P.tape port.old) (P.tape port.new) result }
+{
+    let mut pass = true;
+    let mut addr = slice.first + u32::from(slice.n);
+    while addr > slice.first {
+        addr -= 1;
+        let good = march_cell(port, addr, plain, flipped, ops);
+        pass &= good;
+    }
+    pass
 }
 
 // One element, cell by cell in its order.
@@ -75,13 +99,10 @@ fn march_element<P: Port>(
     ensures { Makes (map (item_of (P.state port.old).shape.width slice.first (λ cell. plain)) (element_on (cells slice.n) element.now)) (P.state port.old) (P.state port.new) (P.tape port.old) (P.tape port.new) result }
 {
     let ops = element.ops.as_slice();
-    let mut pass = true;
-    for place in 0..slice.n {
-        let cell = cell_at(element.order, slice.n, place);
-        let good = march_cell(port, slice.first + u32::from(cell), plain, flipped, ops);
-        pass &= good;
+    match element.order {
+        Order::Down => march_down(port, slice, plain, flipped, ops),
+        Order::Up | Order::Either => march_up(port, slice, plain, flipped, ops),
     }
-    pass
 }
 
 // The march, element by element.
