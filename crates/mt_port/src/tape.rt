@@ -42,6 +42,9 @@ impl Tape {
     pub fn add(&mut self, touch: Touch)
         ensures { self.new ≡ recorded self.old touch }
     {
+        if !self.told {
+            return;
+        }
         if self.touches.is_full() {
             self.told = false;
         } else {

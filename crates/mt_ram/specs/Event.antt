@@ -1,5 +1,5 @@
 -- One running event of RamTst.
-use Rattle.std.specs.Prelude.{ℕ, Bool, false, slice_index_or, slice_set}
+use Rattle.std.specs.Prelude.{ℕ, ◌≡◌, Bool, false, slice_index_or, slice_set}
 use Rattle.mt_seq.specs.declared.sequence.Job.{Job}
 use Rattle.mt_seq.specs.declared.sequence.Verdict.{Verdict}
 use Rattle.mt_seq.specs.Sequence.{sequence_words, sequence_verdict, sequence_hold, sequence_touches}
@@ -25,6 +25,10 @@ job_in set block =
       background = set.background;
       fill = (block_at set.blocks block).fill;
     }
+
+-- a job of a set, for any of its blocks: what does not hang on the block is that of the set
+abbrev pub IsJobOf : ParamSet → Job → Type 0
+IsJobOf set job = (job.alg ≡ set.alg) × (job.background ≡ set.background)
 
 abbrev pub job_of : RamTst → Piece → Job
 job_of r p = job_in (set_of r) p.place.block

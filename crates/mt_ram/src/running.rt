@@ -13,11 +13,12 @@ ghost use Rattle.mt_blocks.specs.Groups.{group_len};
 ghost use Rattle.mt_blocks.specs.Accepted.{IsAcceptedSet};
 ghost use Rattle.mt_ram.specs.State.{set_of, spans_in, IsPlace, IsRunning, IsInside, place_of};
 ghost use Rattle.mt_ram.specs.Table.{MainFunction, RunFullTest, RunPartialTest, cell, row, testing};
-ghost use Rattle.mt_ram.specs.Event.{of_pass, of_test, ticking, full_test, partial_test};
+ghost use Rattle.mt_ram.specs.Event.{IsJobOf, of_pass, of_test, ticking, full_test, partial_test};
 
 use crate::state::{Ram, State};
 use mt_blocks::{Position, group_len};
 use mt_port::Port;
+use mt_seq::Job;
 use mt_window::{EventLog, Refusal, Reply, serve_due, serve_left};
 
 // The reply to a tick.
@@ -79,11 +80,13 @@ impl Ram {
     }
 
     // One slice of the pass, and its boundary.
-    fn run_slice_of_pass<P: Port>(&mut self, port: &mut P, log: &mut EventLog)
+    fn run_slice_of_pass<P: Port>(&mut self, port: &mut P, log: &mut EventLog, job: &mut Job)
+        requires job { IsJobOf (set_of self.old) job.old }
         requires ready { IsReady Itself (P.state port.old) log.old }
         requires shape { (P.state port.old).shape ≡ self.old.setting.shape }
         requires running { IsRunning self.old.state }
         requires room { (P.state port.old).count + 262 * 64 < 2 ^ 32 }
+        ensures job { IsJobOf (set_of self.old) job.new }
         ensures scene { scene (P.state port.new) self.new log.new
             ≡ tested of_pass false (scene (P.state port.old) self.old log.old) (piece_at (set_of self.old).atomic (spans_in self.old) (place_of self.old.state)) }
         ensures ready { IsReady Itself (P.state port.new) log.new }
@@ -93,7 +96,7 @@ impl Ram {
         let State::Running { at } = self.state else {
             unreachable!()
         };
-        let verdict = self.test(port, at);
+        let verdict = self.test(port, job, at);
         self.take_verdict(at, verdict);
         serve_due(port, self, log);
     }
@@ -122,11 +125,12 @@ impl Ram {
             return;
         };
         let len = self.group_at(at);
+        let mut job = self.job();
         for _k in 0..len {
             if self.mark {
                 return;
             }
-            self.run_slice_of_pass(port, log);
+            self.run_slice_of_pass(port, log, &mut job);
         }
     }
 
@@ -156,13 +160,16 @@ impl Ram {
         &mut self,
         port: &mut P,
         log: &mut EventLog,
+        job: &mut Job,
         at: Position,
         failed: bool,
     ) -> bool
+        requires job { IsJobOf (set_of self.old) job.old }
         requires ready { IsReady Itself (P.state port.old) log.old }
         requires shape { (P.state port.old).shape ≡ self.old.setting.shape }
         requires valid { IsValid (set_of self.old).atomic (spans_in self.old) at }
         requires room { (P.state port.old).count + 262 * 64 < 2 ^ 32 }
+        ensures job { IsJobOf (set_of self.old) job.new }
         ensures scene { scene (P.state port.new) self.new log.new
             ≡ tested of_test failed (scene (P.state port.old) self.old log.old) (piece_at (set_of self.old).atomic (spans_in self.old) at) }
         ensures failed { result ≡ failed_after of_test failed (scene (P.state port.old) self.old log.old) (piece_at (set_of self.old).atomic (spans_in self.old) at) }
@@ -170,7 +177,7 @@ impl Ram {
         ensures tape { Logs (P.tape port.old) (P.tape port.new)
             ((of_test).touches self.old (piece_at (set_of self.old).atomic (spans_in self.old) at) (P.state port.old)) }
     {
-        let verdict = self.test(port, at);
+        let verdict = self.test(port, job, at);
         let failed_so_far = self.failed_after(at, verdict, failed);
         self.take_result(at, verdict, failed);
         serve_due(port, self, log);
@@ -194,10 +201,11 @@ impl Ram {
         ensures tape { Logs (P.tape port.old) (P.tape port.new)
             (touches of_test (test_from whole (set_of self.old).atomic (spans_in self.old) from) false (scene (P.state port.old) self.old log.old)) }
     {
+        let mut job = self.job();
         let mut failed = false;
         let mut next = Some(from);
         while let Some(at) = next {
-            failed = self.run_slice_of_test(port, log, at, failed);
+            failed = self.run_slice_of_test(port, log, &mut job, at, failed);
             next = self.next_of_test(at, whole);
         }
     }

@@ -7,35 +7,47 @@ ghost use Rattle.mt_window.specs.Slices.{sequenced};
 ghost use Rattle.mt_blocks.specs.Slices.{IsValid, piece_at, next_in};
 ghost use Rattle.mt_blocks.specs.Accepted.{IsAcceptedSet, spans_of};
 ghost use Rattle.mt_ram.specs.State.{set_of, spans_in};
-ghost use Rattle.mt_ram.specs.Event.{job_in, next_place, of_test, with_result, passed};
+ghost use Rattle.mt_ram.specs.Event.{IsJobOf, job_in, next_place, of_test, with_result, passed};
 
 use crate::result::{keep_failed, next_result};
 use crate::state::{Ram, State};
 use mt_blocks::{ParamSet, Position, following, is_last, next_of_test, or_start, slice_at};
+use mt_plan::Policy;
 use mt_port::Port;
 use mt_seq::{Job, Verdict, run_slice};
 
-// How a block of a set is tested.
-fn job_for(set: &ParamSet, block: u32) -> Job
-    requires { block < length set.now.blocks }
-    ensures { result ≡ job_in set.now block }
+// A job of a set. Its policy and its fill are those of no block yet.
+fn job_for(set: &ParamSet) -> Job
+    ensures { IsJobOf set.now result }
 {
-    let tested = set.blocks.as_slice()[block as usize];
     Job {
         alg: set.alg.copy(),
-        policy: tested.policy,
+        policy: Policy::NonDestructive,
         background: set.background,
-        fill: tested.fill,
+        fill: 0,
     }
 }
 
+// Makes it the job of a block.
+fn aim(job: &mut Job, set: &ParamSet, block: u32)
+    requires block { block < length set.now.blocks }
+    requires job { IsJobOf set.now job.old }
+    ensures { job.new ≡ job_in set.now block }
+{
+    let tested = set.blocks.as_slice()[block as usize];
+    job.policy = tested.policy;
+    job.fill = tested.fill;
+}
+
 // One sequence.
-fn run_sequence<P: Port>(port: &mut P, set: &ParamSet, at: Position) -> Verdict
+fn run_sequence<P: Port>(port: &mut P, job: &mut Job, set: &ParamSet, at: Position) -> Verdict
+    requires job { IsJobOf set.now job.old }
     requires free { (P.state port.old).held ≡ false }
     requires limits { IsWithinLimits (P.state port.old).shape }
     requires accepted { IsAcceptedSet (P.state port.old).shape set.now }
     requires valid { IsValid set.now.atomic (spans_of set.now.blocks) at }
     requires room { (P.state port.old).count + 262 * 64 < 2 ^ 32 }
+    ensures job { IsJobOf set.now job.new }
     ensures verdict { result ≡ sequence_verdict (P.state port.old) (job_in set.now at.block) (piece_at set.now.atomic (spans_of set.now.blocks) at).slice }
     ensures state { P.state port.new ≡ record (P.state port.old) {
       words = sequence_words (P.state port.old) (job_in set.now at.block) (piece_at set.now.atomic (spans_of set.now.blocks) at).slice;
@@ -44,23 +56,32 @@ fn run_sequence<P: Port>(port: &mut P, set: &ParamSet, at: Position) -> Verdict
     ensures tape { Logs (P.tape port.old) (P.tape port.new)
         (sequence_touches (P.state port.old) (job_in set.now at.block) (piece_at set.now.atomic (spans_of set.now.blocks) at).slice) }
 {
-    let job = job_for(set, at.block);
+    aim(job, set, at.block);
     let slice = slice_at(set.blocks.as_slice(), set.atomic, at);
-    run_slice(port, &job, slice)
+    run_slice(port, job, slice)
 }
 
 impl Ram {
+    /// A job of the selected set, which the sequences of an event share.
+    pub(crate) fn job(&self) -> Job
+        ensures { IsJobOf (set_of self.now) result }
+    {
+        job_for(self.set())
+    }
+
     /// The sequence of one slice.
-    pub(crate) fn test<P: Port>(&self, port: &mut P, at: Position) -> Verdict
+    pub(crate) fn test<P: Port>(&self, port: &mut P, job: &mut Job, at: Position) -> Verdict
+        requires job { IsJobOf (set_of self.now) job.old }
         requires free { (P.state port.old).held ≡ false }
         requires shape { (P.state port.old).shape ≡ self.now.setting.shape }
         requires valid { IsValid (set_of self.now).atomic (spans_in self.now) at }
         requires room { (P.state port.old).count + 262 * 64 < 2 ^ 32 }
+        ensures job { IsJobOf (set_of self.now) job.new }
         ensures verdict { result ≡ (of_test).verdict self.now (piece_at (set_of self.now).atomic (spans_in self.now) at) (P.state port.old) }
         ensures state { P.state port.new ≡ sequenced of_test self.now (piece_at (set_of self.now).atomic (spans_in self.now) at) (P.state port.old) }
         ensures tape { Logs (P.tape port.old) (P.tape port.new) ((of_test).touches self.now (piece_at (set_of self.now).atomic (spans_in self.now) at) (P.state port.old)) }
     {
-        run_sequence(port, self.set(), at)
+        run_sequence(port, job, self.set(), at)
     }
 
     // Whether a slice is its block's last.

@@ -13,5 +13,5 @@ slice_at-slice-requires-clause-blocks g c =
 
 pub run_slice-requires-clause-room : goal.run_slice-requires-clause-room
 run_slice-requires-clause-room g c =
-    let accepted : IsAccepted c.job_for-job.result.alg = subst (λ (j : Job). IsAccepted j.alg) (sym c.job_for-job.ensures) c.requires.accepted.accepted in
-    omega (arith, c.requires.room, hold_small c.job_for-job.result c.slice_at-slice.result.n accepted c.slice_at-slice.ensures.small)
+    let accepted : IsAccepted c.aim.new.job.alg = subst (λ (j : Job). IsAccepted j.alg) (sym c.aim.ensures) c.requires.accepted.accepted in
+    omega (arith, c.requires.room, hold_small c.aim.new.job c.slice_at-slice.result.n accepted c.slice_at-slice.ensures.small)

@@ -1,18 +1,44 @@
-use Rattle.std.proofs.Common.{◌≡◌, ◌∙◌, ◌<◌, List, false, true, refl, sym, ap, subst, arith, drop, length}
+use Rattle.std.proofs.Common.{◌≡◌, ◌∙◌, ◌<◌, List, false, true, refl, sym, ap, subst, arith, drop, take, length}
 use Rattle.std.proofs.lemmas.List.{length-drop, length-take-le}
 use Rattle.mt_window.specs.Serving.{scene}
-use Rattle.mt_window.proofs.Slices.{Reaches, reaches-step, reaches-stopped}
+use Rattle.mt_window.proofs.Slices.{Reaches, reaches-start, reaches-step, reaches-stopped}
 use Rattle.mt_blocks.specs.Slices.{Piece, from_place, piece_at}
 use Rattle.mt_blocks.specs.Groups.{group_len}
 use Rattle.mt_ram.specs.declared.state.State.{State}
 use Rattle.mt_ram.specs.declared.state.State.TheVariants.{Running}
-use Rattle.mt_ram.specs.State.{RamTst, set_of, spans_in, place_of}
+use Rattle.mt_ram.specs.State.{RamTst, IsRam, IsPlace, set_of, spans_in, place_of}
 use Rattle.mt_ram.specs.Table.{MainFunction, row, cell}
 use Rattle.mt_window.specs.Rows.{work_in}
-use Rattle.mt_ram.specs.Event.{of_pass}
-use Rattle.mt_blocks.proofs.Tests.{drop_one_more, group_len-le}
-use Rattle.mt_ram.proofs.Ticks.{OnPlace, tick_step, ticked, ticked_tape}
+use Rattle.mt_blocks.specs.declared.config.ParamSet.{ParamSet}
+use Rattle.mt_ram.specs.Event.{IsJobOf, of_pass}
+use Rattle.mt_blocks.proofs.Tests.{drop_one_more, take_taken, group_len-le}
+use Rattle.mt_ram.proofs.Ticks.{OnPlace, on_set, tick_step, ticked, ticked_tape}
 use Rattle.mt_ram.proofs.state.Ram.run_group.Goals as goal
+
+pub loop-k-init : goal.loop-k-init
+loop-k-init g c =
+    let r = c.args.self.now in
+    let ok : IsRam r = subst IsRam c.self.view_is c.self.invariant in
+    let all = work_in (row r MainFunction) in
+    let a = scene (g.P.Port.state c.args.port.now) r c.args.log.now in
+    let state : r.state ≡ Running c.in-Running.at = sym (ap (λ (x : RamTst). x.state) c.self.view_is) ∙ c.in-Running.is in
+    let front = from_place (set_of r).atomic (spans_in r) c.in-Running.at in
+    let work : all ≡ take (group_len r.cells front) front = ap (λ (x : State). work_in (cell r MainFunction x)) state in
+    record {
+      ready = c.requires.ready;
+      on = on_set r ok;
+      job = c.job-job.ensures;
+      setting = refl;
+      shape = c.requires.shape;
+      count = omega (arith, c.requires.start);
+      place = λ h. record {
+        place = c.in-Running.at;
+        running = state;
+        valid = subst (IsPlace (set_of r)) state ok.place;
+        front = ap (λ (l : List Piece). take (length l) front) work ∙ take_taken (group_len r.cells front) front ∙ sym work;
+      };
+      reach = reaches-start of_pass all false a (g.P.Port.tape c.args.port.now);
+    }
 
 pub loop-k-preserved : goal.loop-k-preserved
 loop-k-preserved g c =
@@ -36,6 +62,7 @@ loop-k-preserved g c =
     record {
       ready = c.run_slice_of_pass.ensures.ready;
       on = st.on;
+      job = subst (λ (x : ParamSet). IsJobOf x c.run_slice_of_pass.new.job) inv.on.same c.run_slice_of_pass.ensures.job;
       setting = st.setting ∙ inv.setting;
       shape = st.shape ∙ inv.shape;
       count = omega (arith, st.count, inv.count);

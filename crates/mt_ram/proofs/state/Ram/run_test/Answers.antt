@@ -7,7 +7,7 @@ use Rattle.mt_blocks.specs.Slices.{Piece, IsValid, piece_at, test_from, test_res
 use Rattle.mt_blocks.specs.Laws.{word_count}
 use Rattle.mt_blocks.specs.Accepted.{spans_of}
 use Rattle.mt_ram.specs.State.{set_of, spans_in}
-use Rattle.mt_ram.specs.Event.{of_test}
+use Rattle.mt_ram.specs.Event.{IsJobOf, of_test}
 use Rattle.mt_ram.proofs.Sets.{accepted_spans}
 use Rattle.mt_blocks.proofs.Tests.{test_split, next_in-valid}
 use Rattle.mt_ram.proofs.WholeTests.{test_step}
@@ -22,6 +22,7 @@ loop-next-init g c =
     record {
       ready = c.requires.ready;
       on = record { same = refl; limits = c.requires.limits; accepted = c.requires.accepted };
+      job = c.job-job.ensures;
       setting = refl;
       inside = c.requires.inside;
       shape = c.requires.shape;
@@ -80,6 +81,7 @@ loop-next-preserved g c =
     record {
       ready = c.run_slice_of_test-failed.ensures.ready;
       on = st.on;
+      job = subst (λ (x : ParamSet). IsJobOf x c.run_slice_of_test-failed.new.job) inv.on.same c.run_slice_of_test-failed.ensures.job;
       setting = st.setting ∙ inv.setting;
       inside = st.inside;
       shape = st.shape ∙ inv.shape;

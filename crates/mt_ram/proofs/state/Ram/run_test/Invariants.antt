@@ -6,7 +6,7 @@ use Rattle.mt_blocks.specs.declared.pass.Position.{Position}
 use Rattle.mt_blocks.specs.Slices.{IsValid, test_from, test_rest}
 use Rattle.mt_blocks.specs.Laws.{word_count}
 use Rattle.mt_ram.specs.State.{set_of, spans_in, IsInside}
-use Rattle.mt_ram.specs.Event.{of_test}
+use Rattle.mt_ram.specs.Event.{IsJobOf, of_test}
 use Rattle.mt_ram.proofs.Ticks.{OnSet}
 use Rattle.mt_ram.proofs.state.Ram.run_test.Given as goal
 
@@ -14,6 +14,7 @@ abbrev pub invariant-loop-next : goal.invariant-loop-next
 invariant-loop-next g l = record {
   ready : IsReady Itself (g.P.Port.state l.port) l.log;
   on : OnSet (set_of l.initial.self) l.self;
+  job : IsJobOf (set_of l.initial.self) l.job;
   setting : l.self.setting ≡ l.initial.self.setting;
   inside : IsInside l.self.state;
   shape : (g.P.Port.state l.port).shape ≡ l.initial.self.setting.shape;
