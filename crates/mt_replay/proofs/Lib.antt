@@ -8,3 +8,6 @@ pub mod Forms
 pub mod Jobs
 pub mod Services
 pub mod Latencies
+pub mod Feedless
+pub mod Openings
+pub mod Fixed

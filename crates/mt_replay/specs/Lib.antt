@@ -7,3 +7,4 @@ pub mod Events
 pub mod Head
 pub mod Replay
 pub mod Latency
+pub mod Fixed

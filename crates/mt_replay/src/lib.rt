@@ -18,7 +18,7 @@ pub use form::{Form, Task};
 pub use head::Head;
 pub use input::{Input, Line, LineText};
 pub use job::{Found, Script, replay};
-pub use laws::traces_are_of_steps;
+pub use laws::{formatting_is_fixed, traces_are_of_steps};
 pub use modules::Modules;
 pub use refused::{Refused, refused_of, rule_number};
 pub use run::{Fault, Turn};
