@@ -22,8 +22,9 @@ use Rattle.mt_replay.specs.declared.form.Form.{Form}
 use Rattle.mt_replay.specs.declared.form.Form.TheVariants as forms
 use Rattle.mt_replay.specs.declared.form.Task.{Task}
 use Rattle.mt_replay.specs.Outcome.{Outcome, Run, ran, opening_text, board_after, bad_config, by_job, outcome, run_script, read_fault_text}
-use Rattle.mt_replay.specs.Run.{UsesBoard, Ends, Breaks, Stops}
-use Rattle.mt_replay.specs.Replay.{outcomes, IsFound, IsStart, HasScript, FoundGives, Begins, BeginsEmpty, HeadFails, Concluded, TakenGive, JobGives, empty_text, empty_after, EmptyGives, StatusCaused, Told}
+use Rattle.mt_port.specs.Causes.{Rose}
+use Rattle.mt_replay.specs.Run.{Change, UsesBoard, Ends, Breaks, Stops}
+use Rattle.mt_replay.specs.Replay.{outcomes, IsFound, IsStart, HasScript, FoundGives, Begins, BeginsEmpty, HeadFails, Concluded, TakenGive, JobGives, empty_text, empty_after, EmptyGives, StatusCaused, Told, Stood, Completes}
 use Rattle.mt_replay.proofs.Forms.{scripted-as, board-is}
 use Rattle.mt_replay.proofs.Runs.{change}
 
@@ -270,3 +271,33 @@ pub empty_caused : (result : Status) (form : Form) (c : Config) (defect : Option
 empty_caused result form c defect old new left left' h h' before after source k k' (inl g) = subst (λ (s : Status). StatusCaused s source source k k') (sym g.0) (refl, g.4)
 empty_caused result form c defect old new left left' h h' before after source k k' (inr (inl t, board)) = subst (λ (s : Status). StatusCaused s source source k k') (sym t.0) (refl, t.1.same)
 empty_caused result form c defect old new left left' h h' before after source k k' (inr (inr t, board)) = subst (λ (s : Status). StatusCaused s source source k k') (sym t.0) t.1.cause
+
+-- ---- completeness
+
+told-at : (left left' : Option (List ℕ)) (P : List ℕ → List ℕ → Type 0) (bytes : List ℕ) → left ≡ Some bytes → WhereTold left left' P → (after : List ℕ) × P bytes after
+told-at None left' P bytes e p = cc
+told-at (Some xs) None P bytes e p = absurd p
+told-at (Some xs) (Some ys) P bytes e p = (ys, subst (λ (l : List ℕ). P l ys) (some-is xs bytes e) p)
+  where
+    some-is : (xs bytes : List ℕ) → Some xs ≡ Some bytes → xs ≡ bytes
+    some-is xs bytes e = cc
+
+not-risen : (k k' : ℕ) → Stood k k' → Rose k k' → ⊥
+not-risen k k' stood rose = omega (arith, stood.0, stood.1, rose)
+
+-- an end other than Done is not what an accepted job gives
+other-end : (how : Status) (form : Form) (defect : Option MemoryFault) (old new : Board) (x : Change) (bytes : List ℕ) → x.left ≡ Some bytes → Concluded (outcomes form defect) how old new x
+    → (outcome form Finished defect bytes).status ≡ status.Done → how ≡ status.Done
+other-end how form defect old new x bytes e c done =
+    sym (ap (λ (o : Outcome). o.status) (told-at x.left x.left' _ bytes e c.outcome).1) ∙ done
+
+pub completes : (result : Status) (form : Form) (defect : Option MemoryFault) (old new : Board) (x : Change) (k k' s s' : ℕ) → JobGives result (outcomes form defect) old new x → StatusCaused result k k' s s'
+    → Completes (Some form) result defect x.left k k' s s'
+completes status.Done form defect old new x k k' s s' gives cause source sink bytes e done = inl refl
+completes (status.BadConfig code) form defect old new x k k' s s' gives cause source sink bytes e done = inl (other-end (status.BadConfig code) form defect old new x bytes e gives done)
+completes (status.BadScript line code place) form defect old new x k k' s s' gives cause source sink bytes e done =
+    inl (other-end (status.BadScript line code place) form defect old new x bytes e gives done)
+completes status.ReadFault form defect old new x k k' s s' gives cause source sink bytes e done = absurd (not-risen k k' source cause.0)
+completes status.WriteFault form defect old new x k k' s s' gives cause source sink bytes e done = absurd (not-risen s s' sink cause)
+completes status.NoMemory form defect old new x k k' s s' gives cause source sink bytes e done = inr refl
+completes status.Usage form defect old new x k k' s s' gives cause source sink bytes e done = absurd gives

@@ -1,14 +1,9 @@
 -- Texts that are written one after another.
-use Rattle.std.proofs.Common.{ℕ, ◌+◌, ◌≡◌, List, [], ◌∷◌, ◌++◌, take, length, Option, Some, None, Result, Ok, Err, refl, sym, ap, ◌∙◌, subst, append-nil, append_assoc, arith}
-use Rattle.std.proofs.Math.Seq.{take-append-add}
+use Rattle.std.proofs.Common.{ℕ, ◌≡◌, List, [], ◌∷◌, ◌++◌, Option, Result, Ok, Err, refl, sym, ap, ◌∙◌, subst, append-nil, append_assoc}
 use Rattle.std.specs.Io.KnownBytes.{Appends}
 use Rattle.std.specs.Result.{OnErr}
-use Rattle.mt_port.specs.Streams.{AppendsFront, WhereTold}
-use Rattle.mt_port.specs.declared.board.Touch.{Touch}
-use Rattle.mt_port.specs.Board.{Logs}
+use Rattle.mt_port.specs.Streams.{AppendsFront}
 use Rattle.mt_port.proofs.StreamLemmas.{Appends-nil, Appends-trans, AppendsFront-after, AppendsFront-more}
-use Rattle.std.proofs.lemmas.List.{take-append-le, take_min}
-use Rattle.std.specs.Prelude.{min}
 use Rattle.mt_text.proofs.TraceLemmas.{more_entries}
 use Rattle.mt_word.specs.declared.Width.{Width}
 use Rattle.mt_window.specs.declared.log.Entry.{Entry}

@@ -1,5 +1,5 @@
 -- What the top call does.
-use Rattle.std.specs.Prelude.{ℕ, ◌≡◌, ◌⊎◌, false, if◌then◌else◌, List, [], ◌∷◌, ◌++◌, codes, Option, Some, None, String, string_bytes}
+use Rattle.std.specs.Prelude.{ℕ, ◌-◌, ◌^◌, ◌<◌, ◌≡◌, ◌⊎◌, false, if◌then◌else◌, List, [], ◌∷◌, ◌++◌, codes, Option, Some, None, String, string_bytes}
 use Rattle.std.specs.declared.alloc.Global.{Global}
 use Rattle.std.specs.Str.{bytes_eq}
 use Rattle.std.specs.Io.KnownBytes.{Appends}
@@ -119,6 +119,17 @@ abbrev pub Replays : Option Form → Status → Option Fault → (old new : Boar
 Replays (Some form) result defect old new x sink sink' = JobGives result (outcomes form defect) old new x
 Replays None result defect old new x sink sink' =
     Told result status.Usage usage_text x.held x.held' sink sink' × (x.left' ≡ x.left) × (new ≡ old) × (x.tape' ≡ x.tape)
+
+-- a count of faults stood, and not at its last value
+abbrev pub Stood : ℕ → ℕ → Type 0
+Stood before now = (now ≡ before) × (before < 2 ^ 64 - 1)
+
+-- Where neither stream failed, an accepted job ends in Done, or no memory was found.
+abbrev pub Completes : Option Form → Status → Option Fault → (left : Option (List ℕ)) → (source source' sink sink' : ℕ) → Type 0
+Completes None result defect left source source' sink sink' = Unit {0}
+Completes (Some form) result defect left source source' sink sink' =
+    Stood source source' → Stood sink sink' → (bytes : List ℕ) → left ≡ Some bytes → (outcome form Finished defect bytes).status ≡ status.Done
+    → (result ≡ status.Done) ⊎ (result ≡ status.NoMemory)
 
 -- ---- between the two
 

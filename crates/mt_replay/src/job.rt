@@ -13,7 +13,7 @@ ghost use Rattle.mt_replay.specs.Machine.{Machine, IsReady, started};
 ghost use Rattle.mt_replay.specs.Outcome.{opening_text, bad_config, bad_config_text, by_job, rule_number as number_of_rule};
 ghost use Rattle.mt_replay.specs.Run.{IsReadyFor, UsesBoard};
 ghost use Rattle.mt_replay.specs.Latency.{RequestsWaitShortly};
-ghost use Rattle.mt_replay.specs.Replay.{form_named, form_of, IsAcceptedFound, FoundGives, HeadFails, Begins, EmptyGives, HasScript, IsFound, IsStart, JobGives, Replays, StatusCaused, StaysFree, Told, outcomes};
+ghost use Rattle.mt_replay.specs.Replay.{form_named, form_of, IsAcceptedFound, FoundGives, HeadFails, Begins, EmptyGives, HasScript, IsFound, IsStart, JobGives, Replays, StatusCaused, StaysFree, Completes, Told, outcomes};
 
 use crate::form::{Form, Task};
 use crate::head::{HEAD_ROOM, Head, read_head};
@@ -381,6 +381,8 @@ pub fn replay<S: Source, K: Sink, B: Bench>(
         (record { left = S.left source.old; left' = S.left source.new; held = K.held sink.old; held' = K.held sink.new; tape = B.tape board.old; tape' = B.tape board.new }) (K.faults sink.old) (K.faults sink.new) }
     ensures cause { StatusCaused result (S.faults source.old) (S.faults source.new) (K.faults sink.old) (K.faults sink.new) }
     ensures free { StaysFree (B.state board.old) (B.state board.new) }
+    // Where neither stream failed, an accepted job ends in `Done`, or no memory was found.
+    ensures complete { Completes (form_of words.now) result (B.defect board.old) (S.left source.old) (S.faults source.old) (S.faults source.new) (K.faults sink.old) (K.faults sink.new) }
     // Whatever bytes a job has, each request of its replay waits 0, or less than the length of the sequence that it meets.
     ensures latency { RequestsWaitShortly (B.defect board.old) }
 {
