@@ -71,10 +71,9 @@ build() {
     of=$(printf '%s\n' "$names" | wc -l)
     side=$(jobs)
     say "mt: proves and builds the program first, $of crates, with $side jobs. With nothing kept this took $measured."
-    number=0
+    number=0 kept=0 start=$(date +%s)
     for name in $names; do
-        number=$((number + 1))
-        since=$(date +%s)
+        number=$((number + 1)) since=$(date +%s)
         begin_line "mt: crate $number of $of, $name, since $(date +%H:%M:%S): "
         if ! build_crate "$name" "$side"; then
             end_line 'failed'
@@ -83,9 +82,12 @@ build() {
             say 'mt: the program could not be built'
             return 1
         fi
-        end_line "$(outcome $(($(date +%s) - since)))"
+        became=$(outcome $(($(date +%s) - since)))
+        [ "$became" != kept ] || kept=$((kept + 1))
+        end_line "$became"
     done
     [ -t 2 ] && say ''
+    say "mt: the program is built; $kept crates were kept, $((number - kept)) proved, $(($(date +%s) - start)) s"
     note_built "$began" && rm -f "$log" && trap - EXIT
 }
 
@@ -105,9 +107,14 @@ run_unproved() {
     exit 1
 }
 
-if [ "${1-}" = --unproved ]; then
-    shift
-    run_unproved "$@"
-fi
-is_fresh || build || exit 1
-exec "$program" "$@"
+main() {
+    if [ "${1-}" = --unproved ]; then
+        shift
+        run_unproved "$@"
+    fi
+    is_fresh || build || exit 1
+    exec "$program" "$@"
+}
+
+# The shell has read all of this file here, so that it may change while the program is built.
+main "$@"
