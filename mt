@@ -56,14 +56,14 @@ outcome() {
 }
 
 # Proves and builds one crate. rt builds a program by running it; without words it answers `usage`.
-build_crate() {
-    cd "$top/crates/$1" || return 1
+build_crate() (
+    cd "$top/crates/$1" || exit 1
     if [ "$1" = mt_cli ]; then
         [ "$(rt run mt_cli --jobs "$2" 2>"$log" </dev/null)" = usage ] && [ -x "$program" ]
     else
         rt lib "$1" --jobs "$2" >"$log" 2>&1 </dev/null
     fi
-}
+)
 
 build() {
     names=$(crates) && log=$(mktemp) && began=$(mktemp) || return 1
