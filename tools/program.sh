@@ -1,3 +1,4 @@
+# shellcheck shell=sh disable=SC2154
 # What `mt` and `.ci/run` know of the program: where it stands, and whether it is made of the sources as they are. Who reads
 # this file has set `top`, the top of the repository.
 crate=$top/crates/mt_cli
