@@ -3,8 +3,8 @@
 # this file has set `top`, the top of the repository.
 crate=$top/crates/mt_cli
 program=$crate/out/mt_cli
-# The time of this file is that at which the building of the program began. Its lines are the file of the command `rt` and
-# what `rt version` says.
+# The time of this file is that at which the building of the program began. Its lines are what tells the file of the command
+# `rt` from another, and what `rt version` says.
 stamp=$crate/out/mt.built
 
 # Whether no file was changed or added since the program was built, and no folder has lost one.
@@ -15,14 +15,20 @@ sources_are_same() {
     [ -z "$newer" ]
 }
 
-# Whether the toolchain is the one that built the program. Its version is asked only where its file is another, or newer.
+tool_file() {
+    stat -L -c '%n %d %i %s %Z' "$(command -v rt)"
+}
+
+# Writes the stamp with the time of the file $1.
+write_stamp() {
+    { tool_file && rt version; } >"$stamp.$$" && touch -r "$1" "$stamp.$$" && mv -f "$stamp.$$" "$stamp"
+}
+
+# Whether the toolchain is the one that built the program. Its version is asked only where its file is another.
 toolchain_is_same() {
-    tool=$(command -v rt) || return 0
+    command -v rt >/dev/null || return 0
     { read -r file && read -r version; } <"$stamp" || return 1
-    if [ "$file" = "$tool" ] && [ -z "$(find -L "$tool" -newercm "$stamp")" ]; then
-        return 0
-    fi
-    [ "$version" = "$(rt version)" ]
+    [ "$file" = "$(tool_file)" ] || { [ "$version" = "$(rt version)" ] && write_stamp "$stamp"; }
 }
 
 is_fresh() {
@@ -31,6 +37,5 @@ is_fresh() {
 
 # Notes that the program is made of the sources as they were at the time of the file $1, which is taken away.
 note_built() {
-    printf '%s\n%s\n' "$(command -v rt)" "$(rt version)" >"$1.lines" && touch -r "$1" "$1.lines" &&
-        mv -f "$1.lines" "$stamp" && rm -f "$1"
+    write_stamp "$1" && rm -f "$1"
 }
