@@ -7,7 +7,7 @@
 set -u
 top=$(CDPATH='' cd -- "$(dirname -- "$0")" && pwd -P) || exit 1
 . "$top/tools/program.sh"
-# What the last first run took that was measured, with nothing kept.
+# What the last first run took that was measured, with nothing kept, by a plain `rt run mt_cli`.
 measured='19 minutes on 4 processors'
 log=
 
@@ -70,7 +70,7 @@ build() {
     trap 'rm -f "$log" "$began"' EXIT
     of=$(printf '%s\n' "$names" | wc -l)
     side=$(jobs)
-    say "mt: proves and builds the program first, $of crates, with $side jobs. With nothing kept this took $measured."
+    say "mt: proves and builds the program first, $of crates, with $side jobs. With nothing kept, the last run measured took $measured."
     number=0 kept=0 start=$(date +%s)
     for name in $names; do
         number=$((number + 1)) since=$(date +%s)
