@@ -4,7 +4,8 @@ ghost use Rattle.std.specs.Prelude.{◌≡◌};
 
 use mt_march::March;
 
-/// An algorithm of a RAM test: AUTOSAR, Specification of RAM Test. A march is an accepted one.
+/// An algorithm of a RAM test: AUTOSAR, Specification of RAM Test. What makes steps of it asks that its march is an
+/// accepted one.
 #[derive(Drop)]
 pub enum Algorithm {
     Checkerboard,

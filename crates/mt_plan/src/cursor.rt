@@ -10,7 +10,7 @@ use crate::place::Place;
 use crate::rows::{part_count, row_count, row_len, step_in};
 
 /// A cursor over the steps of an algorithm on the cells of a slice.
-/// It hands out a step in constant time, without a division, and keeps no list.
+/// It hands out a step in constant time, and keeps no list.
 #[derive(Clone, Copy, Debug)]
 pub struct Steps {
     n: u32,

@@ -12,7 +12,7 @@ use mt_port::{Failed, Sink, put};
 use mt_window::{AlgorithmName, Detail, Entry, Refusal, Reply, ShownState, TestResult, Value};
 use mt_word::Width;
 
-/// One trace line: at most 10 digits, a space, 37 bytes and a line feed.
+/// One trace line: at most 10 digits, a space, 44 bytes and a line feed.
 type EntryText = ArrayVec<u8, 64>;
 
 fn state_name(state: ShownState) -> &'static [u8]

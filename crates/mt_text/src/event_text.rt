@@ -12,7 +12,7 @@ use mt_fault::{Fault, Spot};
 use mt_port::{AppOp, HandlerCall, HandlerOp};
 use mt_word::Width;
 
-/// The longest line: an event of at most 64 bytes, and 16 requests of at most 360.
+/// The longest line: an event of at most 64 bytes, 16 requests of at most 358, and a line feed.
 pub type LineText = ArrayVec<u8, 6144>;
 
 /// Appends a token behind a space or behind none.
