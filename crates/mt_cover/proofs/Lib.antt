@@ -1,4 +1,5 @@
 pub mod Model
+pub mod Below
 pub mod Models
 pub mod Link
 pub mod Cells
@@ -7,4 +8,5 @@ pub mod Covered
 pub mod Stuck
 pub mod Walks
 pub mod Table
+pub mod Indices
 pub mod Detection

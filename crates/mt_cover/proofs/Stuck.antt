@@ -23,10 +23,10 @@ shows_other b ba bv t = not (is_write t.act) && (t.cell == 1) && not (beq b (wan
 stuck_caught : (b ba bv a v : Bool) (l : List Step) → list_any (shows_other b ba bv) l ≡ true → caught (stuck b) ba bv a v l ≡ true
 stuck_caught b ba bv a v [] h = h
 stuck_caught b ba bv a v (t ∷ l) h =
-    let more : Bool = caught (stuck b) ba bv (agg_after ba bv a t) (vic_after (stuck b) ba bv a v t) l in
+    let more : Bool = caught (stuck b) ba bv (agg_after (stuck b) ba bv a t) (vic_after (stuck b) ba bv a v t) l in
     elim (or_cases (shows_other b ba bv t) (list_any (shows_other b ba bv) l) h) [
       | inl here ↦ or_left (shows_other b ba bv t) more here
-      | inr later ↦ or_right (shows_other b ba bv t) more (stuck_caught b ba bv (agg_after ba bv a t) (vic_after (stuck b) ba bv a v t) l later)
+      | inr later ↦ or_right (shows_other b ba bv t) more (stuck_caught b ba bv (agg_after (stuck b) ba bv a t) (vic_after (stuck b) ba bv a v t) l later)
     ]
 
 op_shows : (b ba bv value : Bool) (o : Op) → not (beq b (flipped_if value bv)) ≡ true → (not (writes o) && beq (is_one o) value) ≡ true → shows_other b ba bv (step 1 (act_of o)) ≡ true
