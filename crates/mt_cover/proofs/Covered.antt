@@ -65,13 +65,21 @@ module _ (laws : Laws) (on : List ℕ → List Step) (s : Slice) where
       (ruled.model words) ruled.spots at_a at_v (s.fits a lt_a) (s.fits v lt_v) ruled.agg_in.bit ruled.vic_in.bit (on (cells s.n)) earlier
       (there a v at_a at_v lt_a lt_v)
 
+  -- a fault of one spot, where it is caught on the bit of its background
+  pub covered_on_bit : Projects on → (f : Fault) (r : Rule) (vic : Spot) (b : Bool) → IsCaughtOn r b b (on (1 ∷ []))
+      → ((v : ℕ) → s.first + v ≡ vic.word → has_bit (s.back v) vic.bit ≡ b) → IsRuled s f r vic vic → IsCaught on s f
+  covered_on_bit p f r vic b h bit ruled =
+      covered f r vic vic ruled (λ a v at_a at_v lt_a lt_v.
+      let same : a ≡ v = omega arith in
+      subst (λ (x : ℕ). IsCaughtOn r (has_bit (s.back x) vic.bit) (has_bit (s.back v) vic.bit) (project x v (on (cells s.n)))) (sym same)
+      (subst (λ (x : Bool). IsCaughtOn r x x (project v v (on (cells s.n)))) (sym (bit v at_v))
+      (p r v v (cells s.n) b b (subst (λ (ds : List ℕ). IsCaughtOn r b b (on ds)) (sym (one_cell laws v s.n lt_v)) h))))
+
   -- a fault of one spot
   pub covered_one : Projects on → (f : Fault) (r : Rule) (vic : Spot) → ((ba bv : Bool) → IsCaughtOn r ba bv (on (1 ∷ []))) → IsRuled s f r vic vic → IsCaught on s f
   covered_one p f r vic h ruled =
-      covered f r vic vic ruled (λ a v at_a at_v lt_a lt_v.
-      let same : a ≡ v = omega arith in
-      subst (λ (x : ℕ). IsCaughtOn r (has_bit (s.back a) vic.bit) (has_bit (s.back v) vic.bit) (project x v (on (cells s.n)))) (sym same)
-      (p r v v (cells s.n) _ _ (subst (λ (ds : List ℕ). IsCaughtOn r (has_bit (s.back a) vic.bit) (has_bit (s.back v) vic.bit) (on ds)) (sym (one_cell laws v s.n lt_v)) (h _ _))))
+      let b : Bool = has_bit (s.back (vic.word - s.first)) vic.bit in
+      covered_on_bit p f r vic b (h b b) (λ v at. let e : v ≡ vic.word - s.first = omega arith in ap (λ (x : ℕ). has_bit (s.back x) vic.bit) e) ruled
 
   -- a property of the fault's cells holds where it does in both orders
   in_both : (P : List ℕ → Type 0) (a v n : ℕ) → P (0 ∷ 1 ∷ []) → P (1 ∷ 0 ∷ []) → a ≢ v → a < n → v < n → P (flat_map (part a v) (cells n))

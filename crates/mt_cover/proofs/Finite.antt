@@ -2,7 +2,7 @@
 use Rattle.std.proofs.Common.{ℕ, ◌≡◌, Bool, true, false, List, [], ◌∷◌, refl}
 use Rattle.std.specs.Prelude.{◌&&◌}
 use Rattle.std.proofs.lemmas.Bool.{and_parts}
-use Rattle.mt_march.specs.Known.{march_c_minus}
+use Rattle.mt_march.specs.Known.{march_c_minus, mats_plus}
 use Rattle.mt_plan.specs.declared.algorithm.Step.{Step}
 use Rattle.mt_plan.specs.Lists.{march_on, walk_on, galpat_on}
 use Rattle.mt_cover.proofs.Model.{Rule, stuck, no_rise, no_fall, inverts, forces, holds, shared, doubled, caught, IsCaughtOn}
@@ -26,7 +26,7 @@ always r l = both (λ ba. both (λ bv. caught_on r l ba bv))
 abbrev pub always_alike : Rule → List Step → Bool
 always_alike r l = both (λ b. caught_on r l b b)
 
-caught_at : (r : Rule) (l : List Step) (ba bv : Bool) → caught_on r l ba bv ≡ true → IsCaughtOn r ba bv l
+pub caught_at : (r : Rule) (l : List Step) (ba bv : Bool) → caught_on r l ba bv ≡ true → IsCaughtOn r ba bv l
 caught_at r l ba bv h a v = both_at (λ y. caught r ba bv a y l) (both_at (λ x. both (λ y. caught r ba bv x y l)) h a) v
 
 pub always_at : (r : Rule) (l : List Step) → always r l ≡ true → (ba bv : Bool) → IsCaughtOn r ba bv l
@@ -125,3 +125,24 @@ galpat-holds true true = refl
 galpat-holds true false = refl
 galpat-holds false true = refl
 galpat-holds false false = refl
+
+abbrev pub mats : List ℕ → List Step
+mats js = march_on js mats_plus
+
+pub mats-stuck : (b : Bool) → always (stuck b) (mats (1 ∷ [])) ≡ true
+mats-stuck true = refl
+mats-stuck false = refl
+
+-- the change from the background's bit to the other
+pub mats-rise : caught_on no_rise (mats (1 ∷ [])) false false ≡ true
+mats-rise = refl
+
+pub mats-fall : caught_on no_fall (mats (1 ∷ [])) true true ≡ true
+mats-fall = refl
+
+pub mats-moved : is_caught_alike_in_both mats shared ≡ true
+mats-moved = refl
+
+pub mats-wired : (w : Bool) → is_caught_alike_in_both mats (doubled w) ≡ true
+mats-wired true = refl
+mats-wired false = refl

@@ -8,5 +8,6 @@ pub mod Covered
 pub mod Stuck
 pub mod Walks
 pub mod Table
+pub mod Further
 pub mod Indices
 pub mod Detection

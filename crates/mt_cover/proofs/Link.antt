@@ -84,7 +84,16 @@ module _ (laws : Laws) (width : Width) (first : ℕ) (back : ℕ → ℕ) (f : F
   shown : (h : History) → has_bit (answer (Some f) words h vic.word) vic.bit ≡ shows r (agg_now h) (vic_now h)
   shown h = ap (λ (y : ℕ). has_bit y vic.bit) (sym (laws.own_words f words h vic.word spots.vic)) ∙ model.shown (own f h)
 
+  shown_agg : (h : History) → agg.word ≢ vic.word → has_bit (answer (Some f) words h agg.word) agg.bit ≡ agg_now h
+  shown_agg h ne = ap (λ (y : ℕ). has_bit y agg.bit) (sym (laws.own_words f words h agg.word spots.agg)) ∙ model.shown_agg (own f h) ne
+
   -- a read that shows another bit than that of a word does not answer the word
+  other_agg_word : (h : History) (x : ℕ) (b : Bool) → a ≢ v → has_bit x agg.bit ≡ b → not (beq (agg_now h) b) ≡ true → (answer (Some f) words h (first + a) == x) ≡ false
+  other_agg_word h x b apart is ne =
+      let words_apart : agg.word ≢ vic.word = λ e. apart (omega arith) in
+      ne_eqb _ _ (λ e. differs_from (agg_now h) b ne
+      (sym (shown_agg h words_apart) ∙ ap (λ (w : ℕ). has_bit (answer (Some f) words h w) agg.bit) (sym at_agg) ∙ ap (λ (y : ℕ). has_bit y agg.bit) e ∙ is))
+
   other_word : (h : History) (x : ℕ) (b : Bool) → has_bit x vic.bit ≡ b → not (beq (shows r (agg_now h) (vic_now h)) b) ≡ true → (answer (Some f) words h (first + v) == x) ≡ false
   other_word h x b is ne =
       ne_eqb _ _ (λ e. differs_from (shows r (agg_now h) (vic_now h)) b ne
@@ -141,8 +150,16 @@ module _ (laws : Laws) (width : Width) (first : ℕ) (back : ℕ → ℕ) (f : F
   unfolding passes
   at_aggressor WritePlain l h ne next c = after_write_other h (back a) ba l refl ne next c
   at_aggressor WriteFlipped l h ne next c = after_write_other h (complement_of width (back a)) (not ba) l (complement_bit width (back a) agg.bit fit_a in_a) ne next c
-  at_aggressor ReadPlain l h ne next c = right_fails _ _ (after_read h (first + a) l next c)
-  at_aggressor ReadFlipped l h ne next c = right_fails _ _ (after_read h (first + a) l next c)
+  at_aggressor ReadPlain l h ne next c =
+      elim (or_cases _ _ c) [
+        | inl here ↦ left_fails _ _ (other_agg_word h (back a) ba ne refl here)
+        | inr later ↦ right_fails _ _ (after_read h (first + a) l next later)
+      ]
+  at_aggressor ReadFlipped l h ne next c =
+      elim (or_cases _ _ c) [
+        | inl here ↦ left_fails _ _ (other_agg_word h (complement_of width (back a)) (not ba) ne (complement_bit width (back a) agg.bit fit_a in_a) here)
+        | inr later ↦ right_fails _ _ (after_read h (first + a) l next later)
+      ]
 
   at_other : (j : ℕ) (act : Act) (l : List Step) (h : History) → j ≢ a → j ≢ v → Later l → Caught (agg_now h) (vic_now h) (project a v l) → Fails h (step j act ∷ l)
   unfolding passes

@@ -84,9 +84,9 @@ abbrev pub vic_after : Rule → Bool → Bool → Bool → Bool → Step → Boo
 vic_after r ba bv a v t =
     if is_write t.act then (if t.cell == 1 then vic_own r (wanted ba bv t) a v else vic_other r (wanted ba bv t) a v) else v
 
--- whether a step is a read of the victim's cell that shows another bit than it expects
+-- whether a step is a read that shows another bit than it expects
 abbrev pub misses : Rule → Bool → Bool → Bool → Bool → Step → Bool
-misses r ba bv a v t = not (is_write t.act) && (t.cell == 1) && not (beq (shows r a v) (wanted ba bv t))
+misses r ba bv a v t = not (is_write t.act) && not (beq (if t.cell == 1 then shows r a v else a) (wanted ba bv t))
 
 -- whether some step misses, from the bits of aggressor and victim
 abbrev pub caught : Rule → Bool → Bool → Bool → Bool → List Step → Bool
@@ -105,9 +105,10 @@ part a v c = if c == v then (1 ∷ []) else (if c == a then (0 ∷ []) else [])
 abbrev pub project : ℕ → ℕ → List Step → List Step
 project a v l = kept (part a v) l
 
--- The bits of aggressor and victim go by the rule at each access, and reads of the victim's word show them.
+-- The bits of aggressor and victim go by the rule at each access, and reads of their words show them.
 pub record IsModel (f : Fault) (words : List ℕ) (r : Rule) (agg vic : Spot) (agg_bit vic_bit : History → Bool) : Type 0 where
   pub shown : (h : History) → has_bit (answer (Some f) words h vic.word) vic.bit ≡ shows r (agg_bit h) (vic_bit h)
+  pub shown_agg : (h : History) → agg.word ≢ vic.word → has_bit (answer (Some f) words h agg.word) agg.bit ≡ agg_bit h
   pub own_vic : (h : History) (a x : ℕ) → a ≡ vic.word → vic_bit (Write a x ∷ h) ≡ vic_own r (has_bit x vic.bit) (agg_bit h) (vic_bit h)
   pub own_agg : (h : History) (a x : ℕ) → a ≡ vic.word → agg_bit (Write a x ∷ h) ≡ agg_own r (has_bit x vic.bit) (agg_bit h)
   pub other_vic : (h : History) (a x : ℕ) → a ≡ agg.word → a ≢ vic.word → vic_bit (Write a x ∷ h) ≡ vic_other r (has_bit x agg.bit) (agg_bit h) (vic_bit h)

@@ -63,6 +63,7 @@ pub none_model : (addr seen : ℕ) (words : List ℕ) → IsModel (NoCell addr s
 unfolding answer_under
 none_model addr seen words = record {
   shown = λ h. rw (eq-eqb addr addr refl);
+  shown_agg = λ h ne. absurd (ne refl);
   own_vic = λ h a x e. refl;
   own_agg = λ h a x e. refl;
   other_vic = λ h a x e n. refl;
@@ -83,6 +84,7 @@ module _ (laws : Laws) where
   unfolding answer_under
   stuck_model vic value words = record {
     shown = λ h. stuck_bit vic value words h;
+    shown_agg = λ h ne. absurd (ne refl);
     own_vic = λ h a x e. refl;
     own_agg = λ h a x e. refl;
     other_vic = λ h a x e n. refl;
@@ -95,6 +97,7 @@ module _ (laws : Laws) where
   unfolding stored_under answer_under
   rise_model vic words = record {
     shown = λ h. refl;
+    shown_agg = λ h ne. absurd (ne refl);
     own_vic = λ h a x e. laws.last (CannotRise vic) words h a x refl ∙ rw (at vic.word a e);
     own_agg = λ h a x e. refl;
     other_vic = λ h a x e n. absurd (n e);
@@ -107,6 +110,7 @@ module _ (laws : Laws) where
   unfolding stored_under answer_under
   fall_model vic words = record {
     shown = λ h. refl;
+    shown_agg = λ h ne. absurd (ne refl);
     own_vic = λ h a x e. laws.last (CannotFall vic) words h a x refl ∙ rw (at vic.word a e);
     own_agg = λ h a x e. refl;
     other_vic = λ h a x e n. absurd (n e);
@@ -128,6 +132,7 @@ module _ (laws : Laws) where
   unfolding stored_under answer_under
   invert_model agg vic rise words ne = record {
     shown = λ h. refl;
+    shown_agg = λ h apart. rw (ne_eqb agg.word vic.word apart);
     own_vic = λ h a x e. laws.last (Invert agg rise vic) words h a x refl ∙ rw (at vic.word a e);
     own_agg = λ h a x e. agg_kept agg vic words h a x ne e;
     other_vic = λ h a x e n. laws.last (Invert agg rise vic) words h a x refl ∙ rw (off vic.word a n, at agg.word a e);
@@ -140,6 +145,7 @@ module _ (laws : Laws) where
   unfolding stored_under answer_under
   force_model agg vic rise value words ne = record {
     shown = λ h. refl;
+    shown_agg = λ h apart. rw (ne_eqb agg.word vic.word apart);
     own_vic = λ h a x e. laws.last (Force agg rise vic value) words h a x refl ∙ rw (at vic.word a e);
     own_agg = λ h a x e. agg_kept agg vic words h a x ne e;
     other_vic = λ h a x e n. laws.last (Force agg rise vic value) words h a x refl ∙ rw (off vic.word a n, at agg.word a e);
@@ -149,9 +155,10 @@ module _ (laws : Laws) where
   }
 
   pub state_model : (agg vic : Spot) (hold value : Bool) (words : List ℕ) → agg.word ≢ vic.word → IsModel (State agg hold vic value) words (holds hold value) agg vic (λ h. asked words h agg) (bit_after (State agg hold vic value) words)
-  unfolding answer_under
+  unfolding stored_under answer_under
   state_model agg vic hold value words ne = record {
     shown = λ h. refl;
+    shown_agg = λ h apart. rw (ne_eqb agg.word vic.word apart);
     own_vic = λ h a x e. laws.last (State agg hold vic value) words h a x refl ∙ rw (at vic.word a e, off agg.word a (λ same. ne (sym same ∙ e)));
     own_agg = λ h a x e. agg_kept agg vic words h a x ne e;
     other_vic = λ h a x e n. laws.last (State agg hold vic value) words h a x refl ∙ rw (off vic.word a n, at agg.word a e);
@@ -188,6 +195,7 @@ pub instead_model : (addr other : ℕ) (words : List ℕ) → addr ≢ other →
 unfolding stored_under answer_under
 instead_model addr other words ne = record {
   shown = λ h. rw (eq-eqb addr addr refl);
+  shown_agg = λ h apart. rw (ne_eqb other addr apart);
   own_vic = λ h a x e. refl;
   own_agg = λ h a x e. let here : eqb a addr ≡ true = eq-eqb a addr e in let there : eqb other other ≡ true = eq-eqb other other refl in rw (here, there);
   other_vic = λ h a x e n. refl;
@@ -200,6 +208,7 @@ pub also_model : (addr other : ℕ) (wired_and : Bool) (words : List ℕ) → ad
 unfolding stored_under answer_under
 also_model addr other wired_and words ne = record {
   shown = λ h. let here : eqb addr addr ≡ true = eq-eqb addr addr refl in rw here (wired_bit wired_and _ _);
+  shown_agg = λ h apart. rw (ne_eqb other addr apart);
   own_vic = λ h a x e. let here : eqb a addr ≡ true = eq-eqb a addr e in let self : eqb addr addr ≡ true = eq-eqb addr addr refl in rw (here, self);
   own_agg = λ h a x e.
       let here : eqb a addr ≡ true = eq-eqb a addr e in

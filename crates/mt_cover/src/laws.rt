@@ -2,6 +2,7 @@
 
 ghost use Rattle.mt_cover.specs.Coverage.{Coverage, MissesEachTabledFault};
 ghost use Rattle.mt_cover.specs.Detection.{Detection};
+ghost use Rattle.mt_cover.specs.Further.{FurtherCoverage, MatsCatchesOneDirection};
 
 use mt_decoder::nothing_is_missed_where_all_pass;
 use mt_fault::{last_access_decides, other_words_do_not_matter};
@@ -34,4 +35,16 @@ pub fn each_tabled_fault_in_a_slice_fails()
 {
     each_tabled_fault_is_caught();
     caught_faults_fail();
+}
+
+/// Beyond the table: March C- with `u` in place of `*`, MATS+ with stuck-at and decoder faults and with the transition
+/// faults of one direction, and state coupling under walk path and Galpat.
+pub fn further_faults_are_caught()
+    ensures classes { FurtherCoverage }
+    ensures transition { MatsCatchesOneDirection }
+{
+    other_words_do_not_matter();
+    last_access_decides();
+    march_on_kept_cells();
+    kept_cells();
 }
