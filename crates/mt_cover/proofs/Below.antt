@@ -1,5 +1,5 @@
 -- The laws of the crates below on which coverage stands, as their public functions state them.
-use Rattle.std.proofs.Common.{ℕ, ◌≡◌, ◌≢◌, ◌∷◌, Bool, true, false, List, Some, refl, sym}
+use Rattle.std.proofs.Common.{ℕ, ◌≡◌, ◌≢◌, ◌∷◌, Bool, true, false, List, Some, refl}
 use Rattle.std.specs.Prelude.{IsTrue, ◌==◌, ◌||◌}
 use Rattle.std.proofs.lemmas.Bool.{eq-eqb, ne_eqb}
 use Rattle.mt_word.specs.Word.{has_bit}

@@ -1,5 +1,5 @@
 -- What is caught on the fault's cells alone, in each order, is caught in each slice.
-use Rattle.std.proofs.Common.{subst, ℕ, ◌≡◌, ◌≢◌, ◌+◌, ◌-◌, ◌<◌, Bool, true, List, [], ◌∷◌, refl, ap, ◌∙◌, arith, sym, inl, inr}
+use Rattle.std.proofs.Common.{subst, ℕ, ◌≡◌, ◌≢◌, ◌+◌, ◌-◌, ◌<◌, Bool, true, List, [], ◌∷◌, ap, ◌∙◌, arith, sym, inl, inr}
 use Rattle.std.specs.List.{flat_map}
 use Rattle.std.proofs.lemmas.Bool.{and_parts, cases_order}
 use Rattle.mt_word.specs.declared.Width.{Width}
@@ -15,7 +15,7 @@ use Rattle.mt_cover.proofs.Model.{Rule, part, project, IsCaughtOn, IsModel}
 use Rattle.mt_cover.proofs.Below.{Laws, HasSpots}
 use Rattle.mt_cover.proofs.Link.{on_all_cells}
 use Rattle.mt_cover.proofs.Cells.{one_cell, rising, falling}
-use Rattle.mt_cover.proofs.Finite.{always, always_at, always_alike_at, is_caught_in_both, is_caught_alike_in_both}
+use Rattle.mt_cover.proofs.Finite.{always_at, always_alike_at, is_caught_in_both, is_caught_alike_in_both}
 
 -- what is caught by the steps on the fault's cells is caught by those on all cells
 abbrev pub Projects : (List ℕ → List Step) → Type 0

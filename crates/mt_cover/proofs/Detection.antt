@@ -1,5 +1,5 @@
 -- From coverage to sequences.
-use Rattle.std.proofs.Common.{ℕ, zero, suc, ◌+◌, ◌<◌, ◌≤◌, ◌≡◌, ◌≢◌, true, List, [], length, length-append, get_or, All, Option, Some, refl, sym, ap, ◌∙◌, subst, arith}
+use Rattle.std.proofs.Common.{ℕ, zero, suc, ◌+◌, ◌<◌, ◌≤◌, ◌≡◌, true, List, [], length, length-append, get_or, All, Option, Some, refl, sym, ap, ◌∙◌, subst, arith}
 use Rattle.std.specs.Prelude.{slice_index}
 use Rattle.std.proofs.lemmas.List.{length-map}
 use Rattle.std.proofs.lemmas.List.Elements.{All-map, All-nil, All-push}
@@ -17,13 +17,12 @@ use Rattle.mt_plan.specs.declared.algorithm.Policy.{Policy}
 use Rattle.mt_plan.specs.declared.algorithm.Policy.TheVariants.{NonDestructive}
 use Rattle.mt_plan.specs.Lists.{cells}
 use Rattle.mt_plan.specs.Plan.{steps_of}
-use Rattle.mt_seq.specs.declared.sequence.Job.{Job}
 use Rattle.mt_seq.specs.declared.sequence.Slice.{Slice}
 use Rattle.mt_seq.specs.Sequence.{saved_words, testing, back_of, is_transparent}
 use Rattle.mt_seq.specs.Laws.{CaughtFaultsFail}
 use Rattle.mt_cover.specs.declared.class.Class.{Class}
 use Rattle.mt_cover.specs.declared.class.Class.TheVariants as classes
-use Rattle.mt_cover.specs.Coverage.{class_of, IsTabled, IsWalkTabled, HasOneWord, Coverage}
+use Rattle.mt_cover.specs.Coverage.{class_of, IsTabled, HasOneWord, Coverage}
 use Rattle.mt_cover.specs.Detection.{Detection}
 
 -- a word that is stored at first, where the rule of the fault holds of the words

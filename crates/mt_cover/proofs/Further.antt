@@ -1,11 +1,10 @@
 -- What is caught beyond the table.
-use Rattle.std.proofs.Common.{ℕ, ◌≡◌, ◌+◌, ◌-◌, ◌<◌, Bool, true, false, List, [], ◌∷◌, ◌++◌, map, refl, ap, sym, ◌∙◌, subst, inl, inr, arith}
+use Rattle.std.proofs.Common.{ℕ, ◌≡◌, ◌+◌, ◌<◌, Bool, true, false, List, [], ◌∷◌, ◌++◌, map, refl, ap, sym, ◌∙◌, subst, inl, inr, arith}
 use mathlib.Core.Path.{ap₂}
 use Rattle.std.specs.List.{flat_map}
-use Rattle.mt_word.specs.declared.Width.{Width}
-use Rattle.mt_word.specs.Word.{Fits, has_bit}
+use Rattle.mt_word.specs.Word.{has_bit}
 use Rattle.mt_fault.specs.declared.fault.Fault.{Fault}
-use Rattle.mt_fault.specs.declared.fault.Fault.TheVariants.{StuckAt, CannotRise, CannotFall, Invert, Force, State, NoCell, Also, Instead}
+use Rattle.mt_fault.specs.declared.fault.Fault.TheVariants.{StuckAt, CannotRise, CannotFall, NoCell, Also, Instead}
 use Rattle.mt_fault.specs.declared.fault.Spot.{Spot}
 use Rattle.mt_fault.specs.Placement.{IsWellPlaced, IsInside, IsSpot}
 use Rattle.mt_march.specs.declared.march.Order.{Order}
@@ -14,17 +13,17 @@ use Rattle.mt_march.specs.declared.march.Element.{Element}
 use Rattle.mt_march.specs.Known.{march_c_minus, mats_plus}
 use Rattle.mt_plan.specs.declared.algorithm.Step.{Step}
 use Rattle.mt_plan.specs.declared.algorithm.Algorithm.TheVariants.{Checkerboard, March as Marches, WalkPath, Galpat, TransparentGalpat}
-use Rattle.mt_plan.specs.Lists.{cells, in_order, ops_on, element_on, march_on, walk_on, galpat_on}
+use Rattle.mt_plan.specs.Lists.{cells, in_order, ops_on, march_on, walk_on, galpat_on}
 use Rattle.mt_plan.specs.Plan.{steps_of}
-use Rattle.mt_cover.specs.declared.class.Class.TheVariants as classes
 use Rattle.mt_cover.specs.Coverage.{class_of}
 use Rattle.mt_cover.specs.Further.{settled, RunsAs, IsMatsTabled, kept_at, FurtherCoverage, MatsCatchesOneDirection}
 use Rattle.mt_cover.proofs.Below.{Laws}
-use Rattle.mt_cover.proofs.Model.{stuck, no_rise, no_fall, shared, doubled, IsCaughtOn}
+use Rattle.mt_cover.proofs.Model.{stuck, no_rise, no_fall, shared, doubled}
 use Rattle.mt_cover.proofs.Models.{spot}
 use Rattle.mt_cover.proofs.Finite.{always_at, caught_at, walk-holds, galpat-holds, mats, mats-stuck, mats-rise, mats-fall, mats-moved, mats-wired}
-use Rattle.mt_cover.proofs.Covered.{Slice, IsCaught, IsRuled, covered_one, covered_on_bit, covered_alike}
-use Rattle.mt_cover.proofs.Table.{CaughtIn, marches, walks, galpats, state_caught, march_c_all, stuck_ruled, none_ruled, also_ruled, instead_ruled, rise_ruled, fall_ruled}
+use Rattle.mt_cover.proofs.Covered.{Slice, IsCaught, covered_one, covered_on_bit, covered_alike}
+use Rattle.mt_cover.proofs.Table.{CaughtIn, marches, walks, galpats, state_caught, march_c_all}
+use Rattle.mt_cover.proofs.Ruled.{stuck_ruled, none_ruled, also_ruled, instead_ruled, rise_ruled, fall_ruled}
 
 -- an order and the one that runs as it does
 same_order : (o : Order) (js : List ℕ) → in_order (settled o) js ≡ in_order o js

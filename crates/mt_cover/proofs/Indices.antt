@@ -1,8 +1,8 @@
 -- From coverage to the index of the first missed read.
-use Rattle.std.proofs.Common.{ℕ, ◌≡◌, Bool, true, false, [], Option, Some, None, refl, sym, ◌∙◌}
-use Rattle.std.specs.Prelude.{is_some, IsTrue}
+use Rattle.std.proofs.Common.{ℕ, ◌≡◌, true, [], Option, Some, None, refl, sym, ◌∙◌}
+use Rattle.std.specs.Prelude.{is_some}
 use Rattle.std.proofs.lemmas.Bool.{false≢true}
-use Rattle.mt_decoder.specs.Misses.{accesses, first_miss, NothingIsMissedWhereAllPass}
+use Rattle.mt_decoder.specs.Misses.{accesses, NothingIsMissedWhereAllPass}
 use Rattle.mt_cover.specs.Coverage.{Coverage, MissesEachTabledFault}
 
 some_unless : (o : Option ℕ) → (o ≡ None → ⊥) → is_some o ≡ true

@@ -5,6 +5,7 @@ pub mod Link
 pub mod Cells
 pub mod Finite
 pub mod Covered
+pub mod Ruled
 pub mod Stuck
 pub mod Walks
 pub mod Table

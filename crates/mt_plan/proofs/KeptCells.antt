@@ -1,19 +1,16 @@
 -- A march on some of the cells.
-use Rattle.std.proofs.Common.{ℕ, ◌≡◌, ◌<◌, ◌≤◌, zero, suc, Bool, true, false, List, [], ◌∷◌, ◌++◌, map, refl, arith, ap, sym, ◌∙◌, inl, inr, ⊎_elim, ◌⊎◌}
-use mathlib.Core.Path.{ap₂}
+use Rattle.std.proofs.Common.{ℕ, ◌≡◌, ◌<◌, zero, suc, List, [], ◌∷◌, ◌++◌, map, refl, arith, ap, sym, ◌∙◌, ⊎_elim}
 use mathlib.Core.List.{reverse, reverse-cons, reverse-append, append-nil}
 use Rattle.std.specs.Prelude.{◌≢◌}
 use Rattle.std.specs.List.{flat_map}
 use Rattle.std.proofs.lemmas.List.Concat.{flat_map-append}
-use Rattle.std.proofs.lemmas.List.Elements.{filter-append}
-use Rattle.std.proofs.lemmas.Bool.{eq-eqb, ne_eqb, cases_eq, cases_Bool}
+use Rattle.std.proofs.lemmas.Bool.{cases_eq}
 use Rattle.mt_march.specs.declared.march.Order.{Order}
 use Rattle.mt_march.specs.declared.march.Order.TheVariants.{Up, Down, Either}
 use Rattle.mt_march.specs.declared.march.Op.{Op}
 use Rattle.mt_march.specs.declared.march.Element.{Element}
-use Rattle.mt_plan.specs.declared.algorithm.Step.{Step}
 use Rattle.mt_plan.specs.Lists.{step, act_of, cells, in_order, element_on, march_on}
-use Rattle.mt_plan.specs.Kept.{Names, kept, MarchOnKeptCells, KeepsCells, KeptCells}
+use Rattle.mt_plan.specs.Kept.{Names, kept, MarchOnKeptCells, KeptCells}
 
 flat_map-flat_map : {X Y Z : Type 0} (f : Y → List Z) (g : X → List Y) (xs : List X) → flat_map f (flat_map g xs) ≡ flat_map (λ x. flat_map f (g x)) xs
 flat_map-flat_map f g [] = refl

@@ -1,7 +1,7 @@
-use Rattle.std.proofs.Common.{◌≡◌, ◌<◌, ◌+◌, ℕ, length, get_or, arith, ap, ◌∙◌, subst}
+use Rattle.std.proofs.Common.{◌≡◌, ◌<◌, ◌+◌, ℕ, length, arith, ap, ◌∙◌, subst}
 use Rattle.std.specs.Option.{option_or}
-use Rattle.mt_fault.specs.Items.{Item, Look, place}
-use Rattle.mt_fault.specs.Memory.{Memory, after_access}
+use Rattle.mt_fault.specs.Items.{Item, place}
+use Rattle.mt_fault.specs.Memory.{Memory}
 use Rattle.mt_plan.specs.Accesses.{act_on}
 use Rattle.mt_decoder.specs.Misses.{accesses}
 use Rattle.mt_decoder.proofs.Steps.{Made, Made-none, Made-more, Made-all, length-accesses, access_at, place_of}
