@@ -1,10 +1,14 @@
 pub mod Model
+pub mod Below
 pub mod Models
 pub mod Link
 pub mod Cells
 pub mod Finite
 pub mod Covered
+pub mod Ruled
 pub mod Stuck
 pub mod Walks
 pub mod Table
+pub mod Further
+pub mod Indices
 pub mod Detection

@@ -1,7 +1,7 @@
 -- Each accepted march catches each stuck-at fault.
 use Rattle.std.proofs.Common.{◌≡◌, Bool, true, false, List, [], ◌∷◌, ◌++◌, refl, ap, sym, ◌∙◌, ◌⊎◌, inl, inr}
 use mathlib.Core.Bool.{beq}
-use Rattle.std.specs.Prelude.{◌==◌, ◌&&◌, not}
+use Rattle.std.specs.Prelude.{◌==◌, ◌&&◌, not, if◌then◌else◌}
 use Rattle.std.specs.List.{list_any}
 use Rattle.std.proofs.lemmas.Bool.{or_cases, or_left, or_right, false≢true}
 use Rattle.std.proofs.lemmas.List.{map-append}
@@ -14,19 +14,25 @@ use Rattle.mt_march.specs.declared.march.Element.{Element}
 use Rattle.mt_march.specs.Accepted.{operations, writes, is_one, reads}
 use Rattle.mt_plan.specs.declared.algorithm.Step.{Step}
 use Rattle.mt_plan.specs.Lists.{act_of, is_write, step, ops_on, in_order, march_on}
-use Rattle.mt_cover.proofs.Model.{stuck, flipped_if, wanted, agg_after, vic_after, caught}
+use Rattle.mt_cover.proofs.Model.{stuck, flipped_if, wanted, agg_after, vic_after, misses, caught}
 
 -- a read of the victim that wants another bit than b
 abbrev shows_other : Bool → Bool → Bool → Step → Bool
 shows_other b ba bv t = not (is_write t.act) && (t.cell == 1) && not (beq b (wanted ba bv t))
 
+-- such a read misses under the fault
+other_misses : (p q b a w : Bool) → (p && q && not (beq b w)) ≡ true → (p && not (beq (if q then b else a) w)) ≡ true
+other_misses true true b a w h = h
+other_misses true false b a w h = absurd (false≢true h)
+other_misses false q b a w h = absurd (false≢true h)
+
 stuck_caught : (b ba bv a v : Bool) (l : List Step) → list_any (shows_other b ba bv) l ≡ true → caught (stuck b) ba bv a v l ≡ true
 stuck_caught b ba bv a v [] h = h
 stuck_caught b ba bv a v (t ∷ l) h =
-    let more : Bool = caught (stuck b) ba bv (agg_after ba bv a t) (vic_after (stuck b) ba bv a v t) l in
+    let more : Bool = caught (stuck b) ba bv (agg_after (stuck b) ba bv a t) (vic_after (stuck b) ba bv a v t) l in
     elim (or_cases (shows_other b ba bv t) (list_any (shows_other b ba bv) l) h) [
-      | inl here ↦ or_left (shows_other b ba bv t) more here
-      | inr later ↦ or_right (shows_other b ba bv t) more (stuck_caught b ba bv (agg_after ba bv a t) (vic_after (stuck b) ba bv a v t) l later)
+      | inl here ↦ or_left _ more (other_misses (not (is_write t.act)) (t.cell == 1) b a (wanted ba bv t) here)
+      | inr later ↦ or_right (misses (stuck b) ba bv a v t) more (stuck_caught b ba bv (agg_after (stuck b) ba bv a t) (vic_after (stuck b) ba bv a v t) l later)
     ]
 
 op_shows : (b ba bv value : Bool) (o : Op) → not (beq b (flipped_if value bv)) ≡ true → (not (writes o) && beq (is_one o) value) ≡ true → shows_other b ba bv (step 1 (act_of o)) ≡ true

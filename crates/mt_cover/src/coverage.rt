@@ -3,8 +3,7 @@
 ghost use Rattle.std.specs.Prelude.{◌≡◌, ◌↔◌, IsTrue, [], ◌∷◌};
 ghost use Rattle.mt_march.specs.Known.{march_c_minus};
 ghost use Rattle.mt_march.specs.Value.{element as element_of};
-ghost use Rattle.mt_cover.specs.Coverage.{IsTabled, Coverage};
-ghost use Rattle.mt_cover.specs.Detection.{Detection};
+ghost use Rattle.mt_cover.specs.Coverage.{IsTabled};
 
 use crate::class::Class;
 use mt_march::{Element, March, Op, Order};
@@ -48,29 +47,16 @@ fn is_march_c_minus(march: &March) -> bool
 }
 
 /// Whether the table of coverage says that the algorithm catches each fault of the class.
-/// Where it does not, nothing is claimed. No decoder fault is in the table.
+/// Where it does not, nothing is claimed.
 pub fn covers(algorithm: &Algorithm, class: Class) -> bool
     ensures { IsTrue result ↔ IsTabled algorithm.now class }
 {
     match algorithm {
         Algorithm::Checkerboard => class == Class::StuckAt,
-        Algorithm::March(march) => {
-            class == Class::StuckAt || (class != Class::Decoder && is_march_c_minus(march))
-        }
-        Algorithm::WalkPath | Algorithm::Galpat | Algorithm::TransparentGalpat => {
+        Algorithm::March(march) => class == Class::StuckAt || is_march_c_minus(march),
+        Algorithm::WalkPath | Algorithm::Galpat => !matches!(class, Class::Force | Class::State),
+        Algorithm::TransparentGalpat => {
             matches!(class, Class::StuckAt | Class::Transition | Class::Invert)
         }
     }
 }
-
-/// Each fault of a tabled class that lies inside the cells under test makes some checked read answer another word
-/// than it expects: for any number of cells, any background words, any first words and any accesses before.
-pub fn each_tabled_fault_is_caught()
-    ensures { Coverage }
-{}
-
-/// A sequence on a slice with such a fault inside answers `Fail`, whatever the board's words are.
-#[tactic(auto, using(crate::proofs::Detection::detection))]
-pub fn each_tabled_fault_in_a_slice_fails()
-    ensures { Detection }
-{}

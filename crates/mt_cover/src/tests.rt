@@ -30,14 +30,15 @@ fn march(text: &str) -> Option<Algorithm> {
 #[test]
 fn table_by_hand(rt: HostRuntime) {
     let stuck_at = [true, false, false, false, false, false];
-    let one_spot = [true, true, true, false, false, false];
-    let all_of_bits = [true, true, true, true, true, false];
+    let all = [true, true, true, true, true, true];
+    let walk = [true, true, true, false, false, true];
+    let transparent = [true, true, true, false, false, false];
     assert_eq!(rt; row(&Algorithm::Checkerboard), stuck_at);
-    assert_eq!(rt; row(&Algorithm::March(march_c_minus())), all_of_bits);
+    assert_eq!(rt; row(&Algorithm::March(march_c_minus())), all);
     assert_eq!(rt; row(&Algorithm::March(mats_plus())), stuck_at);
-    assert_eq!(rt; row(&Algorithm::WalkPath), one_spot);
-    assert_eq!(rt; row(&Algorithm::Galpat), one_spot);
-    assert_eq!(rt; row(&Algorithm::TransparentGalpat), one_spot);
+    assert_eq!(rt; row(&Algorithm::WalkPath), walk);
+    assert_eq!(rt; row(&Algorithm::Galpat), walk);
+    assert_eq!(rt; row(&Algorithm::TransparentGalpat), transparent);
     // March C- is known by its value, however it is written; with another order it is another march.
     let marches = [
         ("{ *(w0);u(r0,w1);u(r1,w0);d(r0,w1);d(r1,w0);*(r0) }", true),

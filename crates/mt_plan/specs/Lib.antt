@@ -4,3 +4,4 @@ pub mod Rows
 pub mod Cursor
 pub mod Steady
 pub mod Kept
+pub mod Accesses

@@ -13,12 +13,12 @@ pub fn plans_are_steady()
     ensures { PlansAreSteady }
 {}
 
-/// A march without the steps of other cells is the march on the kept ones, whatever the number of cells is.
+/// A march without the steps of other cells is the march on the kept ones, each under its name.
 pub fn march_on_kept_cells()
     ensures { MarchOnKeptCells }
 {}
 
-/// One cell or two, of those of a slice.
+/// Where all cells of a slice but one or two are left out, the kept cells are these, whatever the number of cells is.
 pub fn kept_cells()
     ensures { KeptCells }
 {}

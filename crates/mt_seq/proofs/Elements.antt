@@ -21,7 +21,8 @@ use Rattle.mt_seq.proofs.Makes.{Makes-piece, Makes-same}
 use Rattle.mt_plan.proofs.Items.{at_cells}
 use Rattle.mt_seq.specs.declared.sequence.Slice.{Slice}
 use Rattle.mt_seq.specs.declared.sequence.Job.{Job}
-use Rattle.mt_seq.specs.Sequence.{act_on, item_of, is_transparent, testing}
+use Rattle.mt_plan.specs.Accesses.{act_on, item_of}
+use Rattle.mt_seq.specs.Sequence.{is_transparent, testing}
 use Rattle.mt_seq.proofs.Lengths.{length-cells}
 use Rattle.mt_word.specs.declared.Width.{Width}
 

@@ -16,7 +16,8 @@ use Rattle.mt_seq.specs.declared.sequence.Job.{Job}
 use Rattle.mt_plan.specs.declared.algorithm.Policy.{Policy}
 use Rattle.mt_plan.specs.declared.algorithm.Policy.TheVariants.{NonDestructive, Destructive}
 use Rattle.mt_fault.specs.Items.{Look, Store}
-use Rattle.mt_seq.specs.Sequence.{saving, saved_words, last_of, testing, ending, accesses_of, item_of, sequence_hold, back_of}
+use Rattle.mt_plan.specs.Accesses.{item_of}
+use Rattle.mt_seq.specs.Sequence.{saving, saved_words, last_of, testing, ending, accesses_of, sequence_hold, back_of}
 
 -- how many accesses there are beside so many steps
 abbrev pub hold_with : Policy → ℕ → ℕ → ℕ

@@ -30,7 +30,8 @@ use Rattle.mt_seq.specs.declared.sequence.Job.{Job}
 use Rattle.mt_plan.specs.declared.algorithm.Policy.{Policy}
 use Rattle.mt_plan.specs.declared.algorithm.Policy.TheVariants.{NonDestructive, Destructive}
 use Rattle.mt_fault.specs.Items.{Item, Look, Check, Store, place, access_of, history, agrees, passes}
-use Rattle.mt_seq.specs.Sequence.{act_on, item_of, back_of, last_of, saving, saved_words, testing, ending, accesses_of, sequence, sequence_verdict, sequence_words, verdict_of}
+use Rattle.mt_plan.specs.Accesses.{act_on, item_of}
+use Rattle.mt_seq.specs.Sequence.{back_of, last_of, saving, saved_words, testing, ending, accesses_of, sequence, sequence_verdict, sequence_words, verdict_of}
 use Rattle.mt_seq.specs.Laws.{is_in, left_words, SoundMemoryPasses, SoundMemoryStays, CaughtFaultsFail}
 use Rattle.mt_fault.proofs.ItemLemmas.{history-cons, history-append, passes-append, both}
 

@@ -1,16 +1,15 @@
 -- The accesses of one sequence, its verdict, and the words after it.
 use Rattle.std.specs.Prelude.{ℕ, ◌+◌, ◌≤◌, ◌≡◌, Bool, true, false, List, [], ◌++◌, map, slice_index, if◌then◌else◌, Option}
 use Rattle.mt_word.specs.declared.Width.{Width}
-use Rattle.mt_word.specs.Word.{complement_of, Fits}
+use Rattle.mt_word.specs.Word.{Fits}
 use Rattle.mt_fault.specs.declared.fault.Fault.{Fault}
 use Rattle.mt_fault.specs.Faulty.{answer, words_after}
 use Rattle.mt_plan.specs.declared.algorithm.Algorithm.{Algorithm}
 use Rattle.mt_plan.specs.declared.algorithm.Algorithm.TheVariants.{Checkerboard, March as Marches, WalkPath, Galpat, TransparentGalpat}
-use Rattle.mt_plan.specs.declared.algorithm.Act.{Act}
-use Rattle.mt_plan.specs.declared.algorithm.Act.TheVariants.{WritePlain, WriteFlipped, ReadPlain, ReadFlipped}
 use Rattle.mt_plan.specs.declared.algorithm.Step.{Step}
 use Rattle.mt_plan.specs.Lists.{cells}
 use Rattle.mt_plan.specs.Plan.{steps_of, hold_of, IsAccepted}
+use Rattle.mt_plan.specs.Accesses.{item_of}
 use Rattle.mt_port.specs.Board.{Board}
 use Rattle.mt_port.specs.declared.board.Touch.{Touch}
 use Rattle.mt_seq.specs.Tape.{touch_of}
@@ -20,18 +19,7 @@ use Rattle.mt_plan.specs.declared.algorithm.Policy.{Policy}
 use Rattle.mt_plan.specs.declared.algorithm.Policy.TheVariants.{NonDestructive, Destructive}
 use Rattle.mt_seq.specs.declared.sequence.Verdict.{Verdict}
 use Rattle.mt_seq.specs.declared.sequence.Verdict.TheVariants.{Pass, Fail}
-use Rattle.mt_fault.specs.Items.{Item, Look, Check, Store, history, passes}
-
--- a step on the word at an address, where `back` is the cell's background word
-abbrev pub act_on : Width → ℕ → ℕ → Act → Item
-act_on width addr back WritePlain = Store addr back
-act_on width addr back WriteFlipped = Store addr (complement_of width back)
-act_on width addr back ReadPlain = Check addr back
-act_on width addr back ReadFlipped = Check addr (complement_of width back)
-
--- a step of a plan, where `back` gives each cell its background word
-abbrev pub item_of : Width → ℕ → (ℕ → ℕ) → Step → Item
-item_of width first back step = act_on width (first + step.cell) (back step.cell) step.act
+use Rattle.mt_fault.specs.Items.{Item, Look, Store, history, passes}
 
 -- whether the background of an algorithm is the saved words
 abbrev pub is_transparent : Algorithm → Bool

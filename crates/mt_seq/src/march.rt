@@ -5,7 +5,7 @@ ghost use Rattle.std.specs.List.{flat_map};
 ghost use Rattle.mt_word.specs.Word.{complement_of, Fits};
 ghost use Rattle.mt_plan.specs.Lists.{act_of, cells, ops_on, element_on, march_on};
 ghost use Rattle.mt_seq.specs.Makes.{Makes};
-ghost use Rattle.mt_seq.specs.Sequence.{act_on, item_of};
+ghost use Rattle.mt_plan.specs.Accesses.{act_on, item_of};
 
 use crate::sequence::Slice;
 use crate::step::{check, write};

@@ -4,7 +4,8 @@ ghost use Rattle.std.specs.Prelude.{◌≡◌, ◌<◌, ◌≤◌, ◌+◌, ◌^
 ghost use Rattle.mt_word.specs.Word.{Fits};
 ghost use Rattle.mt_fault.specs.Items.{Check, Store};
 ghost use Rattle.mt_seq.specs.Makes.{Makes};
-ghost use Rattle.mt_seq.specs.Sequence.{act_on, item_of, back_of, last_of, is_transparent};
+ghost use Rattle.mt_plan.specs.Accesses.{act_on, item_of};
+ghost use Rattle.mt_seq.specs.Sequence.{back_of, last_of, is_transparent};
 
 use crate::sequence::{Job, Slice};
 use mt_plan::{Act, Algorithm, Policy, Step};

@@ -4,7 +4,7 @@ use Rattle.mt_march.specs.declared.march.Op.{Op}
 use Rattle.mt_fault.specs.Items.{Item}
 use Rattle.mt_plan.specs.Lists.{act_of}
 use Rattle.mt_port.specs.Board.{Board}
-use Rattle.mt_seq.specs.Sequence.{act_on}
+use Rattle.mt_plan.specs.Accesses.{act_on}
 use Rattle.mt_seq.proofs.Makes.{Makes-nil, Makes-more}
 use Rattle.mt_seq.proofs.march.march_cell.Goals as goal
 

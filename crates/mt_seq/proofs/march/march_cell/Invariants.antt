@@ -1,7 +1,7 @@
 use Rattle.std.proofs.Common.{◌≡◌, ◌+◌, map, take}
 use Rattle.mt_plan.specs.Lists.{act_of}
 use Rattle.mt_seq.specs.Makes.{Makes}
-use Rattle.mt_seq.specs.Sequence.{act_on}
+use Rattle.mt_plan.specs.Accesses.{act_on}
 use Rattle.mt_seq.proofs.march.march_cell.Given as goal
 
 abbrev pub invariant-loop-op : goal.invariant-loop-op

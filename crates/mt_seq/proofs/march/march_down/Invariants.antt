@@ -2,7 +2,7 @@ use Rattle.std.proofs.Common.{◌+◌, ◌-◌, ◌≤◌, map, take, reverse}
 use Rattle.std.specs.List.{flat_map}
 use Rattle.mt_plan.specs.Lists.{cells, ops_on}
 use Rattle.mt_seq.specs.Makes.{Makes}
-use Rattle.mt_seq.specs.Sequence.{item_of}
+use Rattle.mt_plan.specs.Accesses.{item_of}
 use Rattle.mt_seq.proofs.march.march_down.Given as goal
 
 abbrev pub invariant-loop-addr : goal.invariant-loop-addr

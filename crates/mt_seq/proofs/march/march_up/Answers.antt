@@ -6,7 +6,7 @@ use Rattle.mt_march.specs.declared.march.Op.{Op}
 use Rattle.mt_plan.specs.declared.algorithm.Step.{Step}
 use Rattle.mt_plan.specs.Lists.{cells, ops_on}
 use Rattle.mt_port.specs.Board.{Board}
-use Rattle.mt_seq.specs.Sequence.{item_of}
+use Rattle.mt_plan.specs.Accesses.{item_of}
 use Rattle.mt_seq.proofs.Lengths.{length-cells}
 use Rattle.mt_seq.proofs.Makes.{Makes-nil, Makes-same}
 use Rattle.mt_seq.proofs.Elements.{Makes-ops, cell_fits, cell_up}

@@ -5,7 +5,7 @@ use Rattle.mt_fault.specs.Items.{Item}
 use Rattle.mt_march.specs.declared.march.Element.{Element}
 use Rattle.mt_plan.specs.declared.algorithm.Step.{Step}
 use Rattle.mt_plan.specs.Lists.{cells, element_on, march_on}
-use Rattle.mt_seq.specs.Sequence.{item_of}
+use Rattle.mt_plan.specs.Accesses.{item_of}
 use Rattle.mt_seq.proofs.Makes.{Makes-nil, Makes-piece}
 use Rattle.mt_seq.proofs.march.run_march.Goals as goal
 

@@ -1,7 +1,7 @@
 use Rattle.std.proofs.Common.{map, take}
 use Rattle.mt_plan.specs.Lists.{cells, march_on}
 use Rattle.mt_seq.specs.Makes.{Makes}
-use Rattle.mt_seq.specs.Sequence.{item_of}
+use Rattle.mt_plan.specs.Accesses.{item_of}
 use Rattle.mt_seq.proofs.march.run_march.Given as goal
 
 abbrev pub invariant-loop-element : goal.invariant-loop-element

@@ -6,7 +6,8 @@ use Rattle.mt_plan.specs.declared.algorithm.Step.{Step}
 use Rattle.mt_plan.specs.Plan.{steps_of}
 use Rattle.mt_plan.specs.Cursor.{made_by}
 use Rattle.mt_fault.specs.Items.{Item}
-use Rattle.mt_seq.specs.Sequence.{item_of, back_of}
+use Rattle.mt_plan.specs.Accesses.{item_of}
+use Rattle.mt_seq.specs.Sequence.{back_of}
 use Rattle.mt_seq.proofs.Makes.{Makes-nil, Makes-more, Makes-same}
 use Rattle.mt_seq.proofs.sequence.run_steps.Goals as goal
 

@@ -2,7 +2,8 @@ use Rattle.std.proofs.Common.{◌≡◌, ◌+◌, ◌-◌, ◌≤◌, length, ma
 use Rattle.mt_plan.specs.Plan.{steps_of}
 use Rattle.mt_plan.specs.Cursor.{IsCursor, cells_of, made_by}
 use Rattle.mt_seq.specs.Makes.{Makes}
-use Rattle.mt_seq.specs.Sequence.{item_of, back_of}
+use Rattle.mt_plan.specs.Accesses.{item_of}
+use Rattle.mt_seq.specs.Sequence.{back_of}
 use Rattle.mt_seq.proofs.sequence.run_steps.Given as goal
 
 abbrev pub invariant-loop-step : goal.invariant-loop-step

@@ -1,0 +1,50 @@
+//! Laws of coverage.
+
+ghost use Rattle.mt_cover.specs.Coverage.{Coverage, MissesEachTabledFault};
+ghost use Rattle.mt_cover.specs.Detection.{Detection};
+ghost use Rattle.mt_cover.specs.Further.{FurtherCoverage, MatsCatchesOneDirection};
+
+use mt_decoder::nothing_is_missed_where_all_pass;
+use mt_fault::{last_access_decides, other_words_do_not_matter};
+use mt_plan::{kept_cells, march_on_kept_cells};
+use mt_seq::caught_faults_fail;
+
+/// Each fault of a tabled class that lies inside the cells under test makes some checked read answer another word
+/// than it expects: for any number of cells, any background words, any first words and any accesses before. For a
+/// decoder fault the background is one word for all cells.
+pub fn each_tabled_fault_is_caught()
+    ensures { Coverage }
+{
+    other_words_do_not_matter();
+    last_access_decides();
+    march_on_kept_cells();
+    kept_cells();
+}
+
+/// `caught_at` answers an index for each such fault inside its span.
+pub fn each_tabled_fault_has_an_index()
+    ensures { MissesEachTabledFault }
+{
+    each_tabled_fault_is_caught();
+    nothing_is_missed_where_all_pass();
+}
+
+/// A sequence on a slice with such a fault inside answers `Fail`, whatever the board's words are.
+pub fn each_tabled_fault_in_a_slice_fails()
+    ensures { Detection }
+{
+    each_tabled_fault_is_caught();
+    caught_faults_fail();
+}
+
+/// Beyond the table: March C- with `u` in place of `*`, MATS+ with stuck-at and decoder faults and with the transition
+/// faults of one direction, and state coupling under walk path and Galpat.
+pub fn further_faults_are_caught()
+    ensures classes { FurtherCoverage }
+    ensures transition { MatsCatchesOneDirection }
+{
+    other_words_do_not_matter();
+    last_access_decides();
+    march_on_kept_cells();
+    kept_cells();
+}
