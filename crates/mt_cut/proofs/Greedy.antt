@@ -1,0 +1,121 @@
+-- The longest runs are a cut.
+use Rattle.std.proofs.Common.{ℕ, suc, zero, ◌+◌, ◌-◌, ◌<◌, ◌≤◌, ◌≡◌, Bool, true, false, cond, leb, List, [], ◌∷◌, ◌++◌, take, drop, length, refl, sym, ap, ◌∙◌, subst, arith, inl, inr}
+use Rattle.std.specs.Prelude.{◌⊎◌, sum, All}
+use Rattle.std.proofs.lemmas.Bool.Decides.{leb_tells}
+use Rattle.std.proofs.lemmas.Bool.{le-leb, lt-leb}
+use Rattle.std.proofs.lemmas.List.{length-drop, take-append-drop}
+use Rattle.std.proofs.lemmas.List.Sums.{sum_by-cons}
+use Rattle.std.proofs.lemmas.List.Elements.{All-nil, All-cons, All-head, All-tail, All-drop, All-append}
+use Rattle.mt_cut.specs.Cuts.{runs, IsCut, IsCutUnder, IsLongest, longest, longest_runs_up_to, longest_runs}
+
+pub sum-cons : (x : ℕ) (xs : List ℕ) → sum (x ∷ xs) ≡ x + sum xs
+sum-cons x xs = sum_by-cons (λ (n : ℕ). n) x xs
+
+-- ---- one run
+
+pub longest-fits : (budget hold : ℕ) (more : List ℕ) → hold ≤ budget → longest budget (hold ∷ more) ≡ suc (longest (budget - hold) more)
+longest-fits budget hold more low = ap (λ (b : Bool). cond b (suc (longest (budget - hold) more)) 0) (le-leb hold budget low)
+
+pub longest-full : (budget hold : ℕ) (more : List ℕ) → budget < hold → longest budget (hold ∷ more) ≡ 0
+longest-full budget hold more high = ap (λ (b : Bool). cond b (suc (longest (budget - hold) more)) 0) (lt-leb hold budget high)
+
+pub longest-is : (budget : ℕ) (holds : List ℕ) → IsLongest budget holds (longest budget holds)
+longest-is budget [] = record { there = omega arith; within = omega arith; longest = λ h. absurd (omega (arith, h)) }
+longest-is budget (hold ∷ more) = of (leb_tells hold budget) (longest-is (budget - hold) more)
+  where
+    rest : ℕ
+    rest = longest (budget - hold) more
+
+    of : ((leb hold budget ≡ true) × (hold ≤ budget)) ⊎ ((leb hold budget ≡ false) × (budget < hold)) → IsLongest (budget - hold) more (longest (budget - hold) more)
+        → IsLongest budget (hold ∷ more) (longest budget (hold ∷ more))
+    of (inl e) next =
+        let n = longest (budget - hold) more in
+        let fits : IsLongest budget (hold ∷ more) (suc n) = record {
+          there = omega (arith, next.there);
+          within = omega (arith, sum-cons hold (take n more), next.within, e.1);
+          longest = λ h.
+              let one : suc n + 1 ≡ suc (n + 1) = omega arith in
+              let all = ap (λ (k : ℕ). sum (take k (hold ∷ more))) one in
+              let beyond = next.longest (omega (arith, h)) in
+              omega (arith, all, sum-cons hold (take (n + 1) more), beyond, e.1);
+        } in
+        subst (IsLongest budget (hold ∷ more)) (sym (longest-fits budget hold more e.1)) fits
+    of (inr e) next =
+        let full : IsLongest budget (hold ∷ more) 0 = record {
+          there = omega arith;
+          within = omega arith;
+          longest = λ h. omega (arith, sum-cons hold [], e.1);
+        } in
+        subst (IsLongest budget (hold ∷ more)) (sym (longest-full budget hold more e.1)) full
+
+-- no run within the budget has more slices
+pub longest-covers : (budget : ℕ) (holds : List ℕ) (n : ℕ) → n ≤ length holds → sum (take n holds) ≤ budget → n ≤ longest budget holds
+longest-covers budget holds zero there within = omega arith
+longest-covers budget [] (suc n) there within = absurd (omega (arith, there))
+longest-covers budget (hold ∷ more) (suc n) there within =
+    let all = sum-cons hold (take n more) in
+    let fits = longest-fits budget hold more (omega (arith, all, within)) in
+    let next = longest-covers (budget - hold) more n (omega (arith, there)) (omega (arith, all, within)) in
+    omega (arith, fits, next)
+
+-- ---- a cut
+
+-- no run of a cut is above the budget
+abbrev pub Under : ℕ → List ℕ → List ℕ → Type 0
+Under budget [] holds = Unit {0}
+Under budget (n ∷ cut) holds = (sum (take n holds) ≤ budget) × Under budget cut (drop n holds)
+
+abbrev IsWithin : ℕ → List ℕ → Type 0
+IsWithin budget run = sum run ≤ budget
+
+pub under-all : (budget : ℕ) (cut holds : List ℕ) → All (λ run. sum run ≤ budget) (runs cut holds) → Under budget cut holds
+under-all budget [] holds all = tt
+under-all budget (n ∷ cut) holds all =
+    (All-head (IsWithin budget) (take n holds) (runs cut (drop n holds)) all, under-all budget cut (drop n holds) (All-tail (IsWithin budget) (take n holds) (runs cut (drop n holds)) all))
+
+all-under : (budget : ℕ) (cut holds : List ℕ) → Under budget cut holds → All (λ run. sum run ≤ budget) (runs cut holds)
+all-under budget [] holds under = All-nil (IsWithin budget)
+all-under budget (n ∷ cut) holds under = All-cons (IsWithin budget) (take n holds) (runs cut (drop n holds)) under.0 (all-under budget cut (drop n holds) under.1)
+
+-- what a cut of the rest is
+record Cuts (budget : ℕ) (holds cut : List ℕ) : Type 0 where
+  positive : All (λ n. 1 ≤ n) cut
+  whole : sum cut ≡ length holds
+  under : Under budget cut holds
+
+abbrev IsPositive : ℕ → Type 0
+IsPositive n = 1 ≤ n
+
+longest_runs-cut : (budget most : ℕ) (holds : List ℕ) → All (λ hold. hold ≤ budget) holds → length holds ≤ most → Cuts budget holds (longest_runs_up_to most budget holds)
+longest_runs-cut budget zero [] low few = record { positive = All-nil IsPositive; whole = refl; under = tt }
+longest_runs-cut budget zero (hold ∷ more) low few = absurd (omega (arith, few))
+longest_runs-cut budget (suc most) [] low few = record { positive = All-nil IsPositive; whole = refl; under = tt }
+longest_runs-cut budget (suc most) (hold ∷ more) low few =
+    let n = longest budget (hold ∷ more) in
+    let cut = longest_runs_up_to most budget (drop n (hold ∷ more)) in
+    let one = longest-fits budget hold more (All-head (λ (h : ℕ). h ≤ budget) hold more low) in
+    let is = longest-is budget (hold ∷ more) in
+    let shorter = length-drop n (hold ∷ more) in
+    let rest = longest_runs-cut budget most (drop n (hold ∷ more)) (All-drop (λ (h : ℕ). h ≤ budget) n (hold ∷ more) low) (omega (arith, shorter, one, few)) in
+    record {
+      positive = All-cons IsPositive n cut (omega (arith, one)) rest.positive;
+      whole = omega (arith, sum-cons n cut, rest.whole, shorter, is.there);
+      under = (is.within, rest.under);
+    }
+
+pub longest_runs-is_cut : (budget : ℕ) (holds : List ℕ) → All (λ hold. hold ≤ budget) holds → IsCutUnder budget holds (longest_runs budget holds)
+unfolding longest_runs
+longest_runs-is_cut budget holds low =
+    let cut = longest_runs_up_to (length holds) budget holds in
+    let all = longest_runs-cut budget (length holds) holds low (omega arith) in
+    record { cuts = record { positive = all.positive; whole = all.whole }; under = all-under budget cut holds all.under }
+
+-- one run, and then the others
+pub longest_runs-next : (budget most n : ℕ) (holds : List ℕ) → n ≡ longest budget holds → 1 ≤ n
+    → longest_runs_up_to (suc most) budget holds ≡ n ∷ longest_runs_up_to most budget (drop n holds)
+longest_runs-next budget most n [] e some = absurd (omega (arith, e, some))
+longest_runs-next budget most n (hold ∷ more) e some = ap (λ (k : ℕ). k ∷ longest_runs_up_to most budget (drop k (hold ∷ more))) (sym e)
+
+pub longest_runs-none : (budget most : ℕ) → longest_runs_up_to most budget [] ≡ []
+longest_runs-none budget zero = refl
+longest_runs-none budget (suc most) = refl
