@@ -1,9 +1,10 @@
 -- The longest runs stay ahead of every cut: after as many runs they have covered at least as many slices.
-use Rattle.std.proofs.Common.{ℕ, suc, zero, ◌+◌, ◌-◌, ◌<◌, ◌≤◌, ◌≡◌, List, [], ◌∷◌, take, drop, length, refl, sym, ap, ◌∙◌, subst, arith, inl, inr}
-use Rattle.std.specs.Prelude.{◌⊎◌, sum, All}
+use Rattle.std.proofs.Common.{ℕ, suc, zero, ◌+◌, ◌-◌, ◌≤◌, ◌≡◌, List, [], ◌∷◌, take, drop, length, refl, sym, ap, ◌∙◌, subst, arith, inl, inr}
+use Rattle.std.specs.Prelude.{◌⊎◌, sum}
+use Rattle.std.proofs.lemmas.Bool.Decides.{leb_tells}
 use Rattle.std.proofs.lemmas.List.{length-drop}
-use Rattle.mt_cut.specs.Cuts.{IsCutUnder, IsLeast, longest, longest_runs_up_to, longest_runs}
-use Rattle.mt_cut.proofs.Greedy.{sum-cons, longest-covers, Under, under-all, longest_runs-none, longest_runs-is_cut}
+use Rattle.mt_cut.specs.Cuts.{longest, longest_runs_up_to, longest_runs, LongestRunsAreLeast}
+use Rattle.mt_cut.proofs.Greedy.{sum-cons, longest-fits, longest-full, longest-covers, Under, under-all, longest_runs-under}
 
 drop-drop : (a b : ℕ) (xs : List ℕ) → drop a (drop b xs) ≡ drop (a + b) xs
 drop-drop a zero xs = ap (λ (n : ℕ). drop n xs) (let e : a ≡ a + zero = omega arith in e)
@@ -41,14 +42,23 @@ reaches budget n k holds there within = of (later n k)
         let more = longest-covers budget (drop k holds) h.0 (omega (arith, length-drop k holds, there, h.1)) (omega (arith, part, same, within)) in
         omega (arith, more, h.1)
 
+longest-most : (budget hold : ℕ) (more : List ℕ) → longest budget (hold ∷ more) ≤ suc (longest (budget - hold) more)
+longest-most budget hold more = elim (leb_tells hold budget) [
+  | inl h ↦ omega (arith, longest-fits budget hold more h.1)
+  | inr h ↦ omega (arith, longest-full budget hold more h.1)
+]
+
 -- no cut under the budget has fewer runs than the longest runs from k slices further on
 ahead : (budget : ℕ) (cut : List ℕ) (most : ℕ) (holds : List ℕ) (k : ℕ) → sum cut ≡ length holds → Under budget cut holds
     → length (longest_runs_up_to most budget (drop k holds)) ≤ length cut
 ahead budget [] most [] k whole under =
     let none = ap (λ (l : List ℕ). length (longest_runs_up_to most budget l)) (drop-none k) in
-    let end = ap (λ (l : List ℕ). length l) (longest_runs-none budget most) in
-    omega (arith, none, end)
+    omega (arith, none, nothing most)
   where
+    nothing : (most : ℕ) → length (longest_runs_up_to most budget []) ≡ 0
+    nothing zero = refl
+    nothing (suc most) = refl
+
     drop-none : (k : ℕ) → ◌≡◌ {A = List ℕ} (drop k []) []
     drop-none zero = refl
     drop-none (suc k) = refl
@@ -60,10 +70,11 @@ ahead budget (n ∷ cut) (suc most) holds k whole under = of (λ j w. ahead budg
         → (rest : List ℕ) → drop k holds ≡ rest → length (longest_runs_up_to (suc most) budget rest) ≤ length (n ∷ cut)
     of after [] e = omega arith
     of after (hold ∷ more) e =
-        let run = longest budget (hold ∷ more) in
+        let run = suc (longest (budget - hold) more) in
         let all = sum-cons n cut in
         let there : n ≤ length holds = omega (arith, all, whole) in
-        let far : n ≤ run + k = subst (λ (l : List ℕ). n ≤ longest budget l + k) e (reaches budget n k holds there under.0) in
+        let reached : n ≤ longest budget (hold ∷ more) + k = subst (λ (l : List ℕ). n ≤ longest budget l + k) e (reaches budget n k holds there under.0) in
+        let far : n ≤ run + k = omega (arith, reached, longest-most budget hold more) in
         let next = after (run + k - n) (omega (arith, length-drop n holds, all, whole)) in
         let here : drop run (hold ∷ more) ≡ drop (run + k - n) (drop n holds) =
         ap (λ (l : List ℕ). drop run l) (sym e) ∙ drop-drop run k holds ∙ ap (λ (x : ℕ). drop x holds) (let q : run + k ≡ (run + k - n) + n = omega (arith, far) in q) ∙ sym (drop-drop (run + k - n) n holds) in
@@ -71,11 +82,11 @@ ahead budget (n ∷ cut) (suc most) holds k whole under = of (λ j w. ahead budg
         omega (arith, next, same)
 
 -- the longest runs are the fewest ticks
-pub longest_runs-least : (budget : ℕ) (holds : List ℕ) → All (λ hold. hold ≤ budget) holds → IsLeast budget holds (length (longest_runs budget holds))
+pub longest_runs-least : LongestRunsAreLeast
 unfolding longest_runs
 longest_runs-least budget holds low = record {
   cut = longest_runs budget holds;
-  under = longest_runs-is_cut budget holds low;
+  under = longest_runs-under budget holds low;
   many = refl;
   least = λ other is. ahead budget other (length holds) holds 0 is.cuts.whole (under-all budget other holds is.under);
 }

@@ -1,10 +1,9 @@
 -- The sets of the tests are of accepted configurations.
-use Rattle.std.proofs.Common.{ℕ, suc, zero, ◌<◌, ◌≡◌, List, [], ◌∷◌, length, refl, arith, inl, inr}
+use Rattle.std.proofs.Common.{ℕ, suc, zero, ◌<◌, ◌≡◌, [], ◌∷◌, refl, arith, inl}
 use Rattle.std.proofs.lemmas.List.Elements.{All-nil, All-cons}
 use Rattle.mt_plan.specs.declared.algorithm.Algorithm.{Algorithm}
 use Rattle.mt_plan.specs.declared.algorithm.Policy.TheVariants.{NonDestructive}
 use Rattle.mt_plan.specs.Plan.{IsAccepted}
-use Rattle.mt_seq.specs.Sequence.{is_transparent}
 use Rattle.mt_blocks.specs.declared.config.Block.{Block}
 use Rattle.mt_blocks.specs.Slices.{span_at}
 use Rattle.mt_blocks.specs.Accepted.{IsAcceptedBlock, AreApart, spans_of}
@@ -17,8 +16,8 @@ apart zero (suc zero) h k = inl (omega arith)
 apart zero (suc (suc j)) h k = absurd (omega (arith, k))
 apart (suc i) j h k = absurd (omega (arith, h, k))
 
-pub checkerboard-accepted : IsOfAccepted checkerboard_set
-checkerboard-accepted = record {
+pub checkerboard_accepted : IsOfAccepted checkerboard_set
+checkerboard_accepted = record {
   shape = example_shape;
   limits = record { some = omega arith; ram = omega arith; flash = omega arith };
   accepted = record {
@@ -37,8 +36,8 @@ checkerboard-accepted = record {
   };
 }
 
-pub one_block-accepted : (alg : Algorithm) → IsAccepted alg → IsOfAccepted (one_block_set alg)
-one_block-accepted alg ok =
+pub one_block_accepted : (alg : Algorithm) → IsAccepted alg → IsOfAccepted (one_block_set alg)
+one_block_accepted alg ok =
     let block : Block = record kept_block { span = record { first = 0; last = 9 } } in
     record {
       shape = example_shape;

@@ -1,12 +1,12 @@
 -- The longest runs are a cut.
-use Rattle.std.proofs.Common.{ℕ, suc, zero, ◌+◌, ◌-◌, ◌<◌, ◌≤◌, ◌≡◌, Bool, true, false, cond, leb, List, [], ◌∷◌, ◌++◌, take, drop, length, refl, sym, ap, ◌∙◌, subst, arith, inl, inr}
+use Rattle.std.proofs.Common.{ℕ, suc, zero, ◌+◌, ◌-◌, ◌<◌, ◌≤◌, ◌≡◌, Bool, true, false, cond, leb, List, [], ◌∷◌, take, drop, length, refl, sym, ap, ◌∙◌, subst, arith, inl, inr}
 use Rattle.std.specs.Prelude.{◌⊎◌, sum, All}
 use Rattle.std.proofs.lemmas.Bool.Decides.{leb_tells}
 use Rattle.std.proofs.lemmas.Bool.{le-leb, lt-leb}
-use Rattle.std.proofs.lemmas.List.{length-drop, take-append-drop}
+use Rattle.std.proofs.lemmas.List.{length-drop}
 use Rattle.std.proofs.lemmas.List.Sums.{sum_by-cons}
-use Rattle.std.proofs.lemmas.List.Elements.{All-nil, All-cons, All-head, All-tail, All-drop, All-append}
-use Rattle.mt_cut.specs.Cuts.{runs, IsCut, IsCutUnder, IsLongest, longest, longest_runs_up_to, longest_runs}
+use Rattle.std.proofs.lemmas.List.Elements.{All-nil, All-cons, All-head, All-tail, All-drop}
+use Rattle.mt_cut.specs.Cuts.{runs, IsLongest, longest, longest_runs_up_to, longest_runs, LongestRunsAreUnder}
 
 pub sum-cons : (x : ℕ) (xs : List ℕ) → sum (x ∷ xs) ≡ x + sum xs
 sum-cons x xs = sum_by-cons (λ (n : ℕ). n) x xs
@@ -91,31 +91,70 @@ longest_runs-cut budget zero [] low few = record { positive = All-nil IsPositive
 longest_runs-cut budget zero (hold ∷ more) low few = absurd (omega (arith, few))
 longest_runs-cut budget (suc most) [] low few = record { positive = All-nil IsPositive; whole = refl; under = tt }
 longest_runs-cut budget (suc most) (hold ∷ more) low few =
-    let n = longest budget (hold ∷ more) in
-    let cut = longest_runs_up_to most budget (drop n (hold ∷ more)) in
-    let one = longest-fits budget hold more (All-head (λ (h : ℕ). h ≤ budget) hold more low) in
-    let is = longest-is budget (hold ∷ more) in
-    let shorter = length-drop n (hold ∷ more) in
-    let rest = longest_runs-cut budget most (drop n (hold ∷ more)) (All-drop (λ (h : ℕ). h ≤ budget) n (hold ∷ more) low) (omega (arith, shorter, one, few)) in
+    let n = longest (budget - hold) more in
+    let cut = longest_runs_up_to most budget (drop n more) in
+    let first = All-head (λ (h : ℕ). h ≤ budget) hold more low in
+    let is = longest-is (budget - hold) more in
+    let shorter = length-drop n more in
+    let rest = longest_runs-cut budget most (drop n more) (All-drop (λ (h : ℕ). h ≤ budget) n more (All-tail (λ (h : ℕ). h ≤ budget) hold more low)) (omega (arith, shorter, few)) in
     record {
-      positive = All-cons IsPositive n cut (omega (arith, one)) rest.positive;
-      whole = omega (arith, sum-cons n cut, rest.whole, shorter, is.there);
-      under = (is.within, rest.under);
+      positive = All-cons IsPositive (suc n) cut (omega arith) rest.positive;
+      whole = omega (arith, sum-cons (suc n) cut, rest.whole, shorter, is.there);
+      under = (omega (arith, sum-cons hold (take n more), is.within, first), rest.under);
     }
 
-pub longest_runs-is_cut : (budget : ℕ) (holds : List ℕ) → All (λ hold. hold ≤ budget) holds → IsCutUnder budget holds (longest_runs budget holds)
+pub longest_runs-under : LongestRunsAreUnder
 unfolding longest_runs
-longest_runs-is_cut budget holds low =
+longest_runs-under budget holds low =
     let cut = longest_runs_up_to (length holds) budget holds in
     let all = longest_runs-cut budget (length holds) holds low (omega arith) in
     record { cuts = record { positive = all.positive; whole = all.whole }; under = all-under budget cut holds all.under }
 
--- one run, and then the others
-pub longest_runs-next : (budget most n : ℕ) (holds : List ℕ) → n ≡ longest budget holds → 1 ≤ n
-    → longest_runs_up_to (suc most) budget holds ≡ n ∷ longest_runs_up_to most budget (drop n holds)
-longest_runs-next budget most n [] e some = absurd (omega (arith, e, some))
-longest_runs-next budget most n (hold ∷ more) e some = ap (λ (k : ℕ). k ∷ longest_runs_up_to most budget (drop k (hold ∷ more))) (sym e)
+-- ---- one run, and then the others
 
-pub longest_runs-none : (budget most : ℕ) → longest_runs_up_to most budget [] ≡ []
-longest_runs-none budget zero = refl
-longest_runs-none budget (suc most) = refl
+longest_runs-enough : (budget most most' : ℕ) (holds : List ℕ) → length holds ≤ most → length holds ≤ most' → longest_runs_up_to most budget holds ≡ longest_runs_up_to most' budget holds
+longest_runs-enough budget zero zero [] few few' = refl
+longest_runs-enough budget zero (suc most') [] few few' = refl
+longest_runs-enough budget (suc most) zero [] few few' = refl
+longest_runs-enough budget (suc most) (suc most') [] few few' = refl
+longest_runs-enough budget zero most' (hold ∷ more) few few' = absurd (omega (arith, few))
+longest_runs-enough budget (suc most) zero (hold ∷ more) few few' = absurd (omega (arith, few'))
+longest_runs-enough budget (suc most) (suc most') (hold ∷ more) few few' =
+    let n = longest (budget - hold) more in
+    let shorter = length-drop n more in
+    ap (λ (l : List ℕ). suc n ∷ l) (longest_runs-enough budget most most' (drop n more) (omega (arith, shorter, few)) (omega (arith, shorter, few')))
+
+pub longest_runs-next : (budget n : ℕ) (holds : List ℕ) → n ≡ longest budget holds → 1 ≤ n → longest_runs budget holds ≡ n ∷ longest_runs budget (drop n holds)
+unfolding longest_runs
+longest_runs-next budget n [] e some = absurd (omega (arith, e, some))
+longest_runs-next budget n (hold ∷ more) e some = of (leb_tells hold budget)
+  where
+    of : ((leb hold budget ≡ true) × (hold ≤ budget)) ⊎ ((leb hold budget ≡ false) × (budget < hold))
+        → longest_runs_up_to (length (hold ∷ more)) budget (hold ∷ more) ≡ n ∷ longest_runs_up_to (length (drop n (hold ∷ more))) budget (drop n (hold ∷ more))
+    of (inr h) = absurd (omega (arith, e, some, longest-full budget hold more h.1))
+    of (inl h) =
+        let k = longest (budget - hold) more in
+        let is : suc k ≡ n = sym (e ∙ longest-fits budget hold more h.1) in
+        let shorter = length-drop k more in
+        let one : longest_runs_up_to (length (hold ∷ more)) budget (hold ∷ more) ≡ longest_runs_up_to (suc (length more)) budget (hold ∷ more) =
+        longest_runs-enough budget (length (hold ∷ more)) (suc (length more)) (hold ∷ more) (omega arith) (omega arith) in
+        let two : longest_runs_up_to (length more) budget (drop k more) ≡ longest_runs_up_to (length (drop k more)) budget (drop k more) =
+        longest_runs-enough budget (length more) (length (drop k more)) (drop k more) (omega (arith, shorter)) (omega arith) in
+        one ∙ ap (λ (l : List ℕ). suc k ∷ l) two ∙ ap (λ (m : ℕ). m ∷ longest_runs_up_to (length (drop m (hold ∷ more))) budget (drop m (hold ∷ more))) is
+
+pub longest_runs-none : (budget : ℕ) → longest_runs budget [] ≡ []
+unfolding longest_runs
+longest_runs-none budget = refl
+
+-- they are not more than the slices
+few-runs : (budget most : ℕ) (holds : List ℕ) → length (longest_runs_up_to most budget holds) ≤ length holds
+few-runs budget zero holds = omega arith
+few-runs budget (suc most) [] = omega arith
+few-runs budget (suc most) (hold ∷ more) =
+    let n = longest (budget - hold) more in
+    let next = few-runs budget most (drop n more) in
+    omega (arith, next, length-drop n more)
+
+pub longest_runs-few : (budget : ℕ) (holds : List ℕ) → length (longest_runs budget holds) ≤ length holds
+unfolding longest_runs
+longest_runs-few budget holds = few-runs budget (length holds) holds

@@ -1,5 +1,5 @@
 -- Runs over the slices of a pass.
-use Rattle.std.proofs.Common.{ℕ, suc, zero, ◌+◌, ◌-◌, ◌<◌, ◌≤◌, ◌≡◌, List, [], ◌∷◌, ◌++◌, take, drop, length, map, get_or, Option, Some, None, refl, sym, ap, ◌∙◌, subst, arith}
+use Rattle.std.proofs.Common.{ℕ, suc, zero, ◌+◌, ◌-◌, ◌<◌, ◌≤◌, ◌≡◌, List, [], ◌∷◌, ◌++◌, take, drop, length, get_or, Option, Some, None, refl, sym, ap, ◌∙◌, subst, arith}
 use Rattle.std.specs.Prelude.{Bool, cond, not, nat_lt, sum, All, slice_index}
 use Rattle.std.specs.List.{position_or_len}
 use Rattle.std.proofs.lemmas.Bool.{lt-ltb, le-ltb}
@@ -7,12 +7,12 @@ use Rattle.std.proofs.lemmas.List.{length-drop, length-map, get_or-drop, take-ap
 use Rattle.std.proofs.lemmas.List.Elements.{All-nil, All-cons, All-append, All-get_or}
 use Rattle.mt_blocks.specs.declared.pass.Position.{Position}
 use Rattle.mt_blocks.specs.declared.config.ParamSet.{ParamSet}
-use Rattle.mt_blocks.specs.Slices.{Piece, pass, from_place, from_next, piece_at}
+use Rattle.mt_blocks.specs.Slices.{pass, from_place, from_next, piece_at}
 use Rattle.mt_blocks.specs.Accepted.{spans_of}
 use Rattle.mt_cut.specs.Holds.{hold_in, holds, pass_holds, holds_from, holds_next}
-use Rattle.mt_cut.specs.Cuts.{Exceeds, longest, longest_runs_up_to, longest_runs}
+use Rattle.mt_cut.specs.Cuts.{Exceeds, longest, longest_runs}
 use Rattle.mt_cut.specs.Runs.{first_above}
-use Rattle.mt_cut.proofs.Greedy.{sum-cons, longest-fits, longest-full, longest-is, longest_runs-next, longest_runs-none}
+use Rattle.mt_cut.proofs.Greedy.{sum-cons, longest-fits, longest-full, longest-is, longest_runs-none}
 
 -- ---- the accesses from a position on
 
@@ -76,33 +76,10 @@ run-full total k left hold more rest e high same =
 
 -- ---- the fewest ticks, as far as they are counted
 
-abbrev left_ticks : ℕ → List ℕ → ℕ → List ℕ → ℕ
-left_ticks budget all ticks rest = length (longest_runs_up_to (length all - ticks) budget rest)
-
-pub ticks-init : (budget : ℕ) (all rest : List ℕ) → rest ≡ all → 0 + left_ticks budget all 0 rest ≡ length (longest_runs budget all)
-unfolding longest_runs
-ticks-init budget all rest e =
-    let one = ap (λ (l : List ℕ). length (longest_runs_up_to (length all) budget l)) e in
-    let two = ap (λ (n : ℕ). length (longest_runs_up_to n budget rest)) (let q : length all - 0 ≡ length all = omega arith in q) in
-    omega (arith, one, two)
-
 -- one run more
-pub ticks-next : (budget : ℕ) (all rest more : List ℕ) (ticks n total : ℕ) → n ≡ longest budget rest → 1 ≤ n → more ≡ drop n rest → ticks + length rest ≤ length all
-    → ticks + left_ticks budget all ticks rest ≡ total → (ticks + 1) + left_ticks budget all (ticks + 1) more ≡ total
-ticks-next budget all rest more ticks n total is some behind room same =
-    let there = (longest-is budget rest).there in
-    let left : length all - ticks ≡ suc (length all - (ticks + 1)) = omega (arith, room, there, is, some) in
-    let one = ap (λ (k : ℕ). length (longest_runs_up_to k budget rest)) left in
-    let two = ap (λ (l : List ℕ). length l) (longest_runs-next budget (length all - (ticks + 1)) n rest is some) in
-    let three = ap (λ (l : List ℕ). length (longest_runs_up_to (length all - (ticks + 1)) budget l)) behind in
-    omega (arith, one, two, three, same)
-
-pub ticks-room : (budget : ℕ) (all rest more : List ℕ) (ticks n : ℕ) → n ≡ longest budget rest → 1 ≤ n → more ≡ drop n rest → ticks + length rest ≤ length all
-    → (ticks + 1) + length more ≤ length all
-ticks-room budget all rest more ticks n is some behind room =
-    let there = (longest-is budget rest).there in
-    let all' = ap (λ (l : List ℕ). length l) behind in
-    omega (arith, there, is, some, all', length-drop n rest, room)
+pub ticks-next : (budget : ℕ) (rest more : List ℕ) (ticks n total : ℕ) → longest_runs budget rest ≡ n ∷ longest_runs budget more → ticks + length (longest_runs budget rest) ≡ total
+    → (ticks + 1) + length (longest_runs budget more) ≡ total
+ticks-next budget rest more ticks n total next same = let one = ap (λ (l : List ℕ). length l) next in omega (arith, one, same)
 
 pub ticks-less : (budget : ℕ) (rest more : List ℕ) (n : ℕ) → n ≡ longest budget rest → 1 ≤ n → more ≡ drop n rest → length more < length rest
 ticks-less budget rest more n is some behind =
@@ -138,10 +115,10 @@ pub low-high : (budget : ℕ) (all : List ℕ) → All (λ hold. hold ≤ budget
 low-high budget all low high = let is = All-get_or (λ (h : ℕ). h ≤ budget) all high.index 0 high.there low in omega (arith, is, high.above)
 
 -- no slice is left
-pub ticks-all : (budget : ℕ) (all rest : List ℕ) (ticks total : ℕ) → rest ≡ [] → ticks + left_ticks budget all ticks rest ≡ total → total ≡ ticks
-ticks-all budget all rest ticks total none same =
-    let one = ap (λ (l : List ℕ). length (longest_runs_up_to (length all - ticks) budget l)) none in
-    let two = ap (λ (l : List ℕ). length l) (longest_runs-none budget (length all - ticks)) in
+pub ticks-all : (budget : ℕ) (rest : List ℕ) (ticks total : ℕ) → rest ≡ [] → ticks + length (longest_runs budget rest) ≡ total → total ≡ ticks
+ticks-all budget rest ticks total none same =
+    let one = ap (λ (l : List ℕ). length (longest_runs budget l)) none in
+    let two = ap (λ (l : List ℕ). length l) (longest_runs-none budget) in
     omega (arith, one, two, same)
 
 -- ---- the first slice above the budget

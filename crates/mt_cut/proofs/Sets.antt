@@ -10,7 +10,7 @@ use Rattle.mt_blocks.specs.declared.pass.Position.{Position}
 use Rattle.mt_blocks.specs.declared.config.Block.{Block}
 use Rattle.mt_blocks.specs.declared.config.ParamSet.{ParamSet}
 use Rattle.mt_blocks.specs.Slices.{AreSpans, IsValid, span_at, no_span}
-use Rattle.mt_blocks.specs.Accepted.{IsAcceptedBlock, block_at, no_block, spans_of}
+use Rattle.mt_blocks.specs.Accepted.{block_at, no_block, spans_of}
 use Rattle.mt_cut.specs.Holds.{IsOfAccepted}
 
 spans_at : (blocks : List Block) (i : ℕ) → i < length blocks → span_at (spans_of blocks) i ≡ (block_at blocks i).span

@@ -40,13 +40,19 @@ abbrev pub longest : ℕ → List ℕ → ℕ
 longest budget [] = 0
 longest budget (hold ∷ more) = if nat_le hold budget then suc (longest (budget - hold) more) else 0
 
--- the cut in which each run in turn is the longest within a budget, of at most so many runs
+-- the cut in which each run in turn is the longest within a budget, of at most so many runs; a run has its first slice in any case
 abbrev pub longest_runs_up_to : ℕ → ℕ → List ℕ → List ℕ
 longest_runs_up_to zero budget holds = []
 longest_runs_up_to (suc most) budget [] = []
 longest_runs_up_to (suc most) budget (hold ∷ more) =
-    longest budget (hold ∷ more) ∷ longest_runs_up_to most budget (drop (longest budget (hold ∷ more)) (hold ∷ more))
+    suc (longest (budget - hold) more) ∷ longest_runs_up_to most budget (drop (longest (budget - hold) more) more)
 
--- where no slice alone is above the budget, each run has a slice
 unfoldable pub longest_runs : ℕ → List ℕ → List ℕ
 longest_runs budget holds = longest_runs_up_to (length holds) budget holds
+
+-- Where no slice alone is above the budget, that cut is under it, and no cut under it has fewer ticks.
+abbrev pub LongestRunsAreUnder : Type 0
+LongestRunsAreUnder = (budget : ℕ) (holds : List ℕ) → All (λ hold. hold ≤ budget) holds → IsCutUnder budget holds (longest_runs budget holds)
+
+abbrev pub LongestRunsAreLeast : Type 0
+LongestRunsAreLeast = (budget : ℕ) (holds : List ℕ) → All (λ hold. hold ≤ budget) holds → IsLeast budget holds (length (longest_runs budget holds))

@@ -1,5 +1,5 @@
 -- What runs of slices and their searches answer.
-use Rattle.std.specs.Prelude.{ℕ, ◌≤◌, ◌≡◌, List, [], length, take, drop, sum, Option, Some, None, IfSome, nat_lt, position, slice_index}
+use Rattle.std.specs.Prelude.{ℕ, ◌≡◌, List, take, drop, sum, Option, Some, None, IfSome, nat_lt, position, slice_index}
 use Rattle.mt_blocks.specs.declared.pass.Position.{Position}
 use Rattle.mt_blocks.specs.declared.config.ParamSet.{ParamSet}
 use Rattle.mt_blocks.specs.Slices.{IsValid}

@@ -2,11 +2,14 @@
 #![tactic(auto)]
 
 mod atomic;
+mod laws;
 mod run;
 mod step;
 
 pub use atomic::largest_atomic;
+pub use laws::longest_runs_are_least;
 pub use run::{Above, Run, first_above, least_ticks, next_run, run_from};
+pub use step::pass_start;
 
 #[cfg(test)]
 mod tests;

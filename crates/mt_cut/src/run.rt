@@ -1,13 +1,13 @@
 //! Runs of next slices, and the fewest ticks of a pass.
 
-ghost use Rattle.std.specs.Prelude.{ℕ, ◌≡◌, ◌<◌, ◌≤◌, ◌↔◌, IfSome, None, IsTrue, nat_lt, position, slice_index, MatchOption};
+ghost use Rattle.std.specs.Prelude.{ℕ, ◌≡◌, ◌∷◌, ◌<◌, ◌≤◌, ◌↔◌, IfSome, None, IsTrue, nat_lt, position, slice_index, MatchOption};
 ghost use Rattle.mt_blocks.specs.Slices.{IsValid};
 ghost use Rattle.mt_blocks.specs.Accepted.{spans_of};
-ghost use Rattle.mt_cut.specs.Holds.{IsOfAccepted, pass_holds, holds_from};
-ghost use Rattle.mt_cut.specs.Cuts.{Exceeds, IsLeast, IsLongest};
+ghost use Rattle.mt_cut.specs.Holds.{IsOfAccepted, pass_holds, holds_from, holds_next};
+ghost use Rattle.mt_cut.specs.Cuts.{Exceeds, IsLeast, IsLongest, longest_runs};
 ghost use Rattle.mt_cut.specs.Runs.{IsRun, IsAbove};
 
-use crate::step::{first_of, step_at};
+use crate::step::{pass_start, step_at};
 use mt_blocks::{ParamSet, Position};
 
 /// A run of next slices, which one tick tests: how many they are, how many accesses their sequences have, and the
@@ -58,6 +58,8 @@ pub fn run_from(set: &ParamSet, at: Position, budget: u32) -> Option<Run>
     requires valid { IsValid set.now.atomic (spans_of set.now.blocks) at }
     ensures run { IfSome result (IsRun budget set.now at) }
     ensures some { IfSome result (λ run. 1 ≤ run.slices) }
+    // It is the first of the longest runs from there.
+    ensures cut { IfSome result (λ run. longest_runs budget (holds_from set.now at) ≡ run.slices ∷ longest_runs budget (holds_next set.now run.next)) }
     ensures none { result ≡ None ↔ (budget < slice_index (holds_from set.now at) 0) }
 {
     if step_at(set, at).hold > budget {
@@ -88,7 +90,7 @@ pub fn least_ticks(set: &ParamSet, budget: u32) -> Option<u32>
     ensures none { result ≡ None ↔ Exceeds budget (pass_holds set.now) }
 {
     let mut ticks = 0;
-    let mut next = first_of(set);
+    let mut next = pass_start(set);
     while let Some(at) = next {
         match run_from(set, at, budget) {
             Some(run) => {
@@ -107,7 +109,7 @@ pub fn first_above(set: &ParamSet, budget: u32) -> Option<Above>
     ensures { IsAbove budget (pass_holds set.now) result }
 {
     let mut slice = 0;
-    let mut next = first_of(set);
+    let mut next = pass_start(set);
     while let Some(at) = next {
         let step = step_at(set, at);
         if step.hold > budget {

@@ -4,6 +4,7 @@ ghost use Rattle.std.specs.Prelude.{ℕ, ◌≡◌, ◌≤◌, ◌*◌, ◌∷�
 ghost use Rattle.mt_blocks.specs.Slices.{IsValid, piece_at};
 ghost use Rattle.mt_blocks.specs.Accepted.{spans_of};
 ghost use Rattle.mt_cut.specs.Holds.{IsOfAccepted, hold_in, pass_holds, holds_from, holds_next};
+ghost use Rattle.mt_cut.specs.Cuts.{longest_runs};
 
 use mt_blocks::{ParamSet, Position, first_place, following, slice_at};
 use mt_plan::hold_of;
@@ -15,12 +16,13 @@ pub struct Step {
     pub next: Option<Position>,
 }
 
-/// The position of a pass's first slice.
-pub fn first_of(set: &ParamSet) -> Option<Position>
+/// The position of the first slice of a pass over a set.
+pub fn pass_start(set: &ParamSet) -> Option<Position>
     requires { IsOfAccepted set.now }
     ensures valid { IfSome result (IsValid set.now.atomic (spans_of set.now.blocks)) }
     ensures all { holds_next set.now result ≡ pass_holds set.now }
     ensures few { length (pass_holds set.now) ≤ 64 * 65536 }
+    ensures short { (budget : ℕ) → length (longest_runs budget (pass_holds set.now)) ≤ 64 * 65536 }
 {
     first_place(set.blocks.as_slice())
 }

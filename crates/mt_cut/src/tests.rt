@@ -74,3 +74,64 @@ fn ticks_of_one_block(rt: HostRuntime) -> Result<(), Fail> {
     assert_eq!(rt; first_above(&set, 48), None);
     Ok(())
 }
+
+#[test]
+fn runs_of_one_block(rt: HostRuntime) -> Result<(), Fail> {
+    let set = one_block(rt.alloc(), Algorithm::Checkerboard)?;
+    let start = Position {
+        block: 0,
+        offset: 0,
+    };
+    let last = Position {
+        block: 0,
+        offset: 8,
+    };
+    assert_eq!(rt; next_run(&set, start, 23), None);
+    assert_eq!(rt; next_run(&set, start, 47), Some(1));
+    assert_eq!(rt; next_run(&set, start, 48), Some(2));
+    assert_eq!(rt; next_run(&set, start, 1000), Some(3));
+    assert_eq!(rt; next_run(&set, last, 11), None);
+    assert_eq!(rt; next_run(&set, last, 1000), Some(1));
+    Ok(())
+}
+
+#[test]
+fn ticks_of_two_policies(rt: HostRuntime) -> Result<(), Fail> {
+    let set = two_blocks(rt.alloc())?;
+    for (budget, ticks) in [
+        (56, Some(1)),
+        (55, Some(2)),
+        (36, Some(2)),
+        (35, Some(3)),
+        (24, Some(3)),
+        (23, None),
+    ] {
+        assert_eq!(rt; least_ticks(&set, budget), ticks, "{budget}");
+    }
+    assert_eq!(rt; first_above(&set, 19), Some(Above { slice: 0, hold: 20 }));
+    assert_eq!(rt; first_above(&set, 20), Some(Above { slice: 1, hold: 24 }));
+    Ok(())
+}
+
+#[test]
+fn greatest_slices(rt: HostRuntime) -> Result<(), Fail> {
+    let march = one_block(rt.alloc(), Algorithm::March(march_c_minus()))?;
+    for (wait, words) in [
+        (10, None),
+        (11, Some(1)),
+        (22, Some(1)),
+        (23, Some(2)),
+        (46, Some(3)),
+        (47, Some(4)),
+        (766, Some(63)),
+        (767, Some(64)),
+        (4_294_967_295, Some(64)),
+    ] {
+        assert_eq!(rt; largest_atomic(&march, wait), words, "{wait}");
+    }
+    // The block that is filled would let four words pass.
+    let checkerboard = two_blocks(rt.alloc())?;
+    assert_eq!(rt; largest_atomic(&checkerboard, 19), Some(3));
+    assert_eq!(rt; largest_atomic(&checkerboard, 4), None);
+    Ok(())
+}

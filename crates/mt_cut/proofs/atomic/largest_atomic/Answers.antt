@@ -1,5 +1,5 @@
-use Rattle.std.proofs.Common.{ℕ, ◌≡◌, Some, None, Option, refl, sym, ap, ◌∙◌, arith}
-use Rattle.mt_cut.specs.Atomic.{largest, largest_up_to}
+use Rattle.std.proofs.Common.{ℕ, ◌≡◌, refl, sym, ap, ◌∙◌, arith}
+use Rattle.mt_cut.specs.Atomic.{largest_up_to}
 use Rattle.mt_cut.proofs.Largest.{largest-yes, largest-no, largest-end, largest-start, largest-is, largest-none, no-largest}
 use Rattle.mt_cut.proofs.atomic.largest_atomic.Goals as goal
 

@@ -1,4 +1,4 @@
-use Rattle.std.proofs.Common.{◌≡◌, ◌≤◌}
+use Rattle.std.proofs.Common.{◌≡◌}
 use Rattle.mt_cut.specs.Atomic.{largest, largest_up_to}
 use Rattle.mt_cut.proofs.atomic.largest_atomic.Given as goal
 

@@ -1,4 +1,4 @@
-use Rattle.std.proofs.Common.{ℕ, ◌≡◌, ◌∷◌, List, sym, ap, ◌∙◌, drop, arith, length}
+use Rattle.std.proofs.Common.{◌≡◌, ◌∷◌, sym, ap, ◌∙◌}
 use Rattle.mt_cut.specs.Holds.{holds_next, pass_holds}
 use Rattle.mt_cut.proofs.Places.{drop-next, above-next, above-here, above-none, above-room}
 use Rattle.mt_cut.proofs.run.first_above.Goals as goal

@@ -1,22 +1,21 @@
-use Rattle.std.proofs.Common.{ℕ, suc, zero, ◌≡◌, ◌+◌, ◌-◌, ◌<◌, ◌≤◌, ◌∷◌, List, [], drop, length, subst, sym, ap, ◌∙◌, refl, arith}
+use Rattle.std.proofs.Common.{ℕ, ◌≡◌, ◌≤◌, List, drop, length, subst, sym, ap, ◌∙◌, refl, arith}
 use Rattle.std.specs.Prelude.{All, Some, None}
 use Rattle.std.proofs.lemmas.List.Elements.{All-nil}
 use Rattle.mt_cut.specs.Holds.{holds_from, holds_next, pass_holds}
 use Rattle.mt_cut.specs.Cuts.{Exceeds, IsLeast, longest, longest_runs}
 use Rattle.mt_cut.proofs.Ahead.{longest_runs-least}
-use Rattle.mt_cut.proofs.Places.{ticks-init, ticks-next, ticks-room, ticks-less, low-before, high-before, exceeds-first, low-high, ticks-all}
+use Rattle.mt_cut.proofs.Places.{ticks-next, ticks-less, low-before, high-before, exceeds-first, low-high, ticks-all}
 use Rattle.mt_cut.proofs.run.least_ticks.Goals as goal
 
 pub loop-next-init : goal.loop-next-init
 loop-next-init c =
     let set = c.args.set.now in
     let L = pass_holds set in
-    let all = c.first_of-next.ensures.all in
+    let all = c.pass_start-next.ensures.all in
     record {
-      valid = c.first_of-next.ensures.valid;
-      same = ticks-init c.args.budget L (holds_next set c.first_of-next.result) all;
-      room = omega (arith, ap (λ (l : List ℕ). length l) all);
-      few = c.first_of-next.ensures.few;
+      valid = c.pass_start-next.ensures.valid;
+      same = (let one = ap (λ (l : List ℕ). length (longest_runs c.args.budget l)) all in omega (arith, one));
+      few = c.pass_start-next.ensures.short c.args.budget;
       low = λ h. subst (All (λ hold. hold ≤ c.args.budget)) all h;
       high = λ h. subst (Exceeds c.args.budget) all h;
     }
@@ -28,7 +27,6 @@ loop-next-preserved c =
     let inv = c.loop-next.invariant in
     let run = c.in-Some-run_from.run' in
     let is = c.in-Some-run_from.ensures.run in
-    let some = c.in-Some-run_from.ensures.some in
     let all = holds_next set c.loop-next.next in
     let more = holds_next set run.next in
     let here = ap (holds_next set) c.in-Some.is in
@@ -36,8 +34,8 @@ loop-next-preserved c =
     let behind : more ≡ drop run.slices all = is.rest ∙ ap (λ (l : List ℕ). drop run.slices l) (sym here) in
     record {
       valid = is.valid;
-      same = ticks-next c.args.budget L all more c.loop-next.ticks run.slices (length (longest_runs c.args.budget L)) longest some behind inv.room inv.same;
-      room = ticks-room c.args.budget L all more c.loop-next.ticks run.slices longest some behind inv.room;
+      same = ticks-next c.args.budget all more c.loop-next.ticks run.slices (length (longest_runs c.args.budget L))
+          (ap (longest_runs c.args.budget) here ∙ c.in-Some-run_from.ensures.cut) inv.same;
       few = inv.few;
       low = λ h. inv.low (low-before c.args.budget all more run.slices longest behind h);
       high = λ h. inv.high (high-before c.args.budget all more run.slices behind h);
@@ -67,7 +65,7 @@ returns-clause-least c =
     let inv = c.loop-next.invariant in
     let none = ap (holds_next set) c.in_default.is in
     let low = inv.low (subst (All (λ (hold : ℕ). hold ≤ c.args.budget)) (sym none) (All-nil (λ (hold : ℕ). hold ≤ c.args.budget))) in
-    subst (IsLeast c.args.budget L) (ticks-all c.args.budget L (holds_next set c.loop-next.next) c.loop-next.ticks (length (longest_runs c.args.budget L)) none inv.same)
+    subst (IsLeast c.args.budget L) (ticks-all c.args.budget (holds_next set c.loop-next.next) c.loop-next.ticks (length (longest_runs c.args.budget L)) none inv.same)
     (longest_runs-least c.args.budget L low)
 
 pub returns-clause-none : goal.returns-clause-none

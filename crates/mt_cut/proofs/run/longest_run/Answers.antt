@@ -1,4 +1,4 @@
-use Rattle.std.proofs.Common.{ℕ, ◌≡◌, ◌+◌, ◌-◌, ◌∷◌, drop, sym, ap, ◌∙◌, arith}
+use Rattle.std.proofs.Common.{◌≡◌, ◌+◌, ◌-◌, ◌∷◌, drop, sym, ap, ◌∙◌, arith}
 use Rattle.mt_cut.specs.Holds.{holds_from, holds_next}
 use Rattle.mt_cut.specs.Cuts.{longest}
 use Rattle.mt_cut.proofs.Places.{drop-next, sum_take-next, run-fits, run-full}

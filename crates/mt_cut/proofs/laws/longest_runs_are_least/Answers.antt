@@ -1,0 +1,9 @@
+use Rattle.mt_cut.proofs.Greedy.{longest_runs-under}
+use Rattle.mt_cut.proofs.Ahead.{longest_runs-least}
+use Rattle.mt_cut.proofs.laws.longest_runs_are_least.Goals as goal
+
+pub returns-clause-under : goal.returns-clause-under
+returns-clause-under c = longest_runs-under
+
+pub returns-clause-least : goal.returns-clause-least
+returns-clause-least c = longest_runs-least
