@@ -1,9 +1,9 @@
 -- The longest runs stay ahead of every cut: after as many runs they have covered at least as many slices.
 use Rattle.std.proofs.Common.{ℕ, suc, zero, ◌+◌, ◌-◌, ◌≤◌, ◌≡◌, List, [], ◌∷◌, take, drop, length, refl, sym, ap, ◌∙◌, subst, arith, inl, inr}
-use Rattle.std.specs.Prelude.{◌⊎◌, sum}
+use Rattle.std.specs.Prelude.{◌⊎◌, sum, All}
 use Rattle.std.proofs.lemmas.Bool.Decides.{leb_tells}
 use Rattle.std.proofs.lemmas.List.{length-drop}
-use Rattle.mt_cut.specs.Cuts.{longest, longest_runs_up_to, longest_runs, LongestRunsAreLeast}
+use Rattle.mt_cut.specs.Cuts.{longest, longest_runs_up_to, longest_runs, IsLeast}
 use Rattle.mt_cut.proofs.Greedy.{sum-cons, longest-fits, longest-full, longest-covers, Under, under-all, longest_runs-under}
 
 drop-drop : (a b : ℕ) (xs : List ℕ) → drop a (drop b xs) ≡ drop (a + b) xs
@@ -82,7 +82,7 @@ ahead budget (n ∷ cut) (suc most) holds k whole under = of (λ j w. ahead budg
         omega (arith, next, same)
 
 -- the longest runs are the fewest ticks
-pub longest_runs-least : LongestRunsAreLeast
+pub longest_runs-least : (budget : ℕ) (holds : List ℕ) → All (λ hold. hold ≤ budget) holds → IsLeast budget holds (length (longest_runs budget holds))
 unfolding longest_runs
 longest_runs-least budget holds low = record {
   cut = longest_runs budget holds;

@@ -6,7 +6,7 @@ use Rattle.std.proofs.lemmas.Bool.{le-leb, lt-leb}
 use Rattle.std.proofs.lemmas.List.{length-drop}
 use Rattle.std.proofs.lemmas.List.Sums.{sum_by-cons}
 use Rattle.std.proofs.lemmas.List.Elements.{All-nil, All-cons, All-head, All-tail, All-drop}
-use Rattle.mt_cut.specs.Cuts.{runs, IsLongest, longest, longest_runs_up_to, longest_runs, LongestRunsAreUnder}
+use Rattle.mt_cut.specs.Cuts.{runs, IsCutUnder, IsLongest, longest, longest_runs_up_to, longest_runs}
 
 pub sum-cons : (x : ℕ) (xs : List ℕ) → sum (x ∷ xs) ≡ x + sum xs
 sum-cons x xs = sum_by-cons (λ (n : ℕ). n) x xs
@@ -103,7 +103,7 @@ longest_runs-cut budget (suc most) (hold ∷ more) low few =
       under = (omega (arith, sum-cons hold (take n more), is.within, first), rest.under);
     }
 
-pub longest_runs-under : LongestRunsAreUnder
+pub longest_runs-under : (budget : ℕ) (holds : List ℕ) → All (λ hold. hold ≤ budget) holds → IsCutUnder budget holds (longest_runs budget holds)
 unfolding longest_runs
 longest_runs-under budget holds low =
     let cut = longest_runs_up_to (length holds) budget holds in

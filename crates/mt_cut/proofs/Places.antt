@@ -1,8 +1,10 @@
 -- Runs over the slices of a pass.
-use Rattle.std.proofs.Common.{ℕ, suc, zero, ◌+◌, ◌-◌, ◌<◌, ◌≤◌, ◌≡◌, List, [], ◌∷◌, ◌++◌, take, drop, length, get_or, Option, Some, None, refl, sym, ap, ◌∙◌, subst, arith}
-use Rattle.std.specs.Prelude.{Bool, cond, not, nat_lt, sum, All, slice_index}
+use Rattle.std.proofs.Common.{ℕ, suc, zero, leb, inl, inr, ◌+◌, ◌-◌, ◌<◌, ◌≤◌, ◌≡◌, List, [], ◌∷◌, ◌++◌, take, drop, length, get_or, Option, Some, None, refl, sym, ap, ◌∙◌, subst, arith}
+use Rattle.std.specs.Prelude.{◌⊎◌, Bool, true, false, cond, not, nat_lt, sum, All, slice_index}
 use Rattle.std.specs.List.{position_or_len}
 use Rattle.std.proofs.lemmas.Bool.{lt-ltb, le-ltb}
+use Rattle.std.proofs.lemmas.Bool.Decides.{leb_tells, nat_tests}
+use Rattle.std.proofs.lemmas.List.Sums.{fails_before_first}
 use Rattle.std.proofs.lemmas.List.{length-drop, length-map, get_or-drop, take-append-drop}
 use Rattle.std.proofs.lemmas.List.Elements.{All-nil, All-cons, All-append, All-get_or}
 use Rattle.mt_blocks.specs.declared.pass.Position.{Position}
@@ -10,8 +12,7 @@ use Rattle.mt_blocks.specs.declared.config.ParamSet.{ParamSet}
 use Rattle.mt_blocks.specs.Slices.{pass, from_place, from_next, piece_at}
 use Rattle.mt_blocks.specs.Accepted.{spans_of}
 use Rattle.mt_cut.specs.Holds.{hold_in, holds, pass_holds, holds_from, holds_next}
-use Rattle.mt_cut.specs.Cuts.{Exceeds, longest, longest_runs}
-use Rattle.mt_cut.specs.Runs.{first_above}
+use Rattle.mt_cut.specs.Cuts.{Exceeds, longest, longest_runs, first_above}
 use Rattle.mt_cut.proofs.Greedy.{sum-cons, longest-fits, longest-full, longest-is, longest_runs-none}
 
 -- ---- the accesses from a position on
@@ -163,3 +164,17 @@ above-none budget k all rest e behind there same =
 
 pub above-room : (hold k : ℕ) (all rest more : List ℕ) → rest ≡ hold ∷ more → rest ≡ drop k all → k + 1 ≤ length all
 above-room hold k all rest more e behind = omega (arith, length-next k hold all more (sym behind ∙ e))
+
+-- where there is none, no slice is above the budget
+pub above-low : (budget : ℕ) (all : List ℕ) → first_above budget all ≡ None → All (λ hold. hold ≤ budget) all
+above-low budget all none k d inside = of (leb_tells (length all) (first_place budget all))
+  where
+    of : ((leb (length all) (first_place budget all) ≡ true) × (length all ≤ first_place budget all)) ⊎ ((leb (length all) (first_place budget all) ≡ false) × (first_place budget all < length all))
+        → get_or all k d ≤ budget
+    of (inl h) =
+        let fails = fails_before_first (λ (hold : ℕ). nat_lt budget hold) all k d (omega (arith, inside, h.1)) in
+        grind (arith, nat_tests)
+    of (inr h) =
+        let some : first_above budget all ≡ Some (first_place budget all) =
+        ap (λ (b : Bool). cond b (Some (first_place budget all)) None) (lt-ltb (first_place budget all) (length all) h.1) in
+        cc

@@ -1,5 +1,5 @@
 -- Cuts of a pass into runs of next slices, of which each is one tick. A pass is told by the accesses of its slices.
-use Rattle.std.specs.Prelude.{ℕ, suc, zero, ◌+◌, ◌-◌, ◌<◌, ◌≤◌, ◌≡◌, List, [], ◌∷◌, length, take, drop, sum, All, slice_index, if◌then◌else◌, nat_le}
+use Rattle.std.specs.Prelude.{ℕ, suc, zero, ◌+◌, ◌-◌, ◌<◌, ◌≤◌, ◌≡◌, List, [], ◌∷◌, length, take, drop, sum, All, slice_index, position, Option, None, if◌then◌else◌, nat_le, nat_lt}
 
 -- the runs of a cut: so many slices at the front, and then the runs of the rest
 abbrev pub runs : List ℕ → List ℕ → List (List ℕ)
@@ -50,9 +50,13 @@ longest_runs_up_to (suc most) budget (hold ∷ more) =
 unfoldable pub longest_runs : ℕ → List ℕ → List ℕ
 longest_runs budget holds = longest_runs_up_to (length holds) budget holds
 
--- Where no slice alone is above the budget, that cut is under it, and no cut under it has fewer ticks.
+-- the number of the first slice that alone is above a budget, counted from 0
+abbrev pub first_above : ℕ → List ℕ → Option ℕ
+first_above budget holds = position (λ hold. nat_lt budget hold) holds
+
+-- Where there is none, the longest runs are a cut under the budget, and no cut under it has fewer ticks.
 abbrev pub LongestRunsAreUnder : Type 0
-LongestRunsAreUnder = (budget : ℕ) (holds : List ℕ) → All (λ hold. hold ≤ budget) holds → IsCutUnder budget holds (longest_runs budget holds)
+LongestRunsAreUnder = (budget : ℕ) (holds : List ℕ) → first_above budget holds ≡ None → IsCutUnder budget holds (longest_runs budget holds)
 
 abbrev pub LongestRunsAreLeast : Type 0
-LongestRunsAreLeast = (budget : ℕ) (holds : List ℕ) → All (λ hold. hold ≤ budget) holds → IsLeast budget holds (length (longest_runs budget holds))
+LongestRunsAreLeast = (budget : ℕ) (holds : List ℕ) → first_above budget holds ≡ None → IsLeast budget holds (length (longest_runs budget holds))

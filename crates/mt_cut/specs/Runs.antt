@@ -7,7 +7,7 @@ use Rattle.mt_blocks.specs.Accepted.{spans_of}
 use Rattle.mt_cut.specs.declared.run.Run.{Run}
 use Rattle.mt_cut.specs.declared.run.Above.{Above}
 use Rattle.mt_cut.specs.Holds.{holds_from, holds_next}
-use Rattle.mt_cut.specs.Cuts.{longest}
+use Rattle.mt_cut.specs.Cuts.{longest, first_above}
 
 -- The longest run from a position within a budget, and where the pass goes on behind it.
 pub record IsRun (budget : ℕ) (set : ParamSet) (at : Position) (run : Run) : Type 0 where
@@ -17,9 +17,6 @@ pub record IsRun (budget : ℕ) (set : ParamSet) (at : Position) (run : Run) : T
   pub rest : holds_next set run.next ≡ drop run.slices (holds_from set at)
 
 -- The first slice that alone is above a budget, with its accesses; none where there is none.
-abbrev pub first_above : ℕ → List ℕ → Option ℕ
-first_above budget holds = position (λ hold. nat_lt budget hold) holds
-
 abbrev pub IsAbove : ℕ → List ℕ → Option Above → Type 0
 IsAbove budget holds None = first_above budget holds ≡ None
 IsAbove budget holds (Some above) = (first_above budget holds ≡ Some above.slice) × (above.hold ≡ slice_index holds above.slice)

@@ -1,6 +1,6 @@
 //! Runs of next slices, and the fewest ticks of a pass.
 
-ghost use Rattle.std.specs.Prelude.{ℕ, ◌≡◌, ◌∷◌, ◌<◌, ◌≤◌, ◌↔◌, IfSome, None, IsTrue, nat_lt, position, slice_index, MatchOption};
+ghost use Rattle.std.specs.Prelude.{ℕ, ◌≡◌, ◌∷◌, ◌<◌, ◌≤◌, ◌↔◌, IfSome, IfNone, None, All, slice_index};
 ghost use Rattle.mt_blocks.specs.Slices.{IsValid};
 ghost use Rattle.mt_blocks.specs.Accepted.{spans_of};
 ghost use Rattle.mt_cut.specs.Holds.{IsOfAccepted, pass_holds, holds_from, holds_next};
@@ -106,7 +106,8 @@ pub fn least_ticks(set: &ParamSet, budget: u32) -> Option<u32>
 /// The first slice of a pass whose sequence alone is above a budget.
 pub fn first_above(set: &ParamSet, budget: u32) -> Option<Above>
     requires { IsOfAccepted set.now }
-    ensures { IsAbove budget (pass_holds set.now) result }
+    ensures above { IsAbove budget (pass_holds set.now) result }
+    ensures low { IfNone result (All (λ hold. hold ≤ budget) (pass_holds set.now)) }
 {
     let mut slice = 0;
     let mut next = pass_start(set);

@@ -36,12 +36,8 @@ fn hold_at(set: &ParamSet, at: Position) -> u32
     ensures some { 1 ≤ result }
 {
     let blocks = set.blocks.as_slice();
-    let slice = slice_at(blocks, set.atomic, at);
-    hold_of(
-        &set.alg,
-        blocks[at.block as usize].policy,
-        u32::from(slice.n),
-    )
+    let words = u32::from(slice_at(blocks, set.atomic, at).n);
+    hold_of(&set.alg, blocks[at.block as usize].policy, words)
 }
 
 /// The slice at a position.

@@ -1,6 +1,6 @@
 use Rattle.std.proofs.Common.{◌≡◌, ◌∷◌, sym, ap, ◌∙◌}
 use Rattle.mt_cut.specs.Holds.{holds_next, pass_holds}
-use Rattle.mt_cut.proofs.Places.{drop-next, above-next, above-here, above-none, above-room}
+use Rattle.mt_cut.proofs.Places.{drop-next, above-next, above-here, above-none, above-room, above-low}
 use Rattle.mt_cut.proofs.run.first_above.Goals as goal
 
 pub loop-next-preserved : goal.loop-next-preserved
@@ -20,16 +20,22 @@ loop-next-preserved c =
       few = inv.few;
     }
 
-pub returns-then-step-budget : goal.returns-then-step-budget
-returns-then-step-budget c =
+pub returns-then-step-budget-clause-above : goal.returns-then-step-budget-clause-above
+returns-then-step-budget-clause-above c =
     let set = c.args.set.now in
     let inv = c.loop-next.invariant in
     let here : holds_next set c.loop-next.next ≡ c.step_at-step.result.hold ∷ holds_next set c.step_at-step.result.next = ap (holds_next set) c.in-Some.is ∙ c.step_at-step.ensures.rest in
     above-here c.args.budget c.step_at-step.result.hold c.loop-next.slice (pass_holds set) (holds_next set c.loop-next.next) (holds_next set c.step_at-step.result.next) here
     c.if-step-budget.true inv.rest inv.ahead
 
-pub returns : goal.returns
-returns c =
+none : goal.returns-clause-above
+none c =
     let set = c.args.set.now in
     let inv = c.loop-next.invariant in
     above-none c.args.budget c.loop-next.slice (pass_holds set) (holds_next set c.loop-next.next) (ap (holds_next set) c.in_default.is) inv.rest inv.there inv.ahead
+
+pub returns-clause-above : goal.returns-clause-above
+returns-clause-above c = none c
+
+pub returns-clause-low : goal.returns-clause-low
+returns-clause-low c = above-low c.args.budget (pass_holds c.args.set.now) (none c)
