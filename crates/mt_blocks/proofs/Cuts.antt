@@ -9,10 +9,10 @@ use Rattle.std.proofs.lemmas.List.{length-drop, take-append-drop}
 use Rattle.std.proofs.lemmas.List.FromFn.{length-map-range_with_len}
 use Rattle.mt_blocks.specs.declared.span.Span.{Span}
 use Rattle.mt_blocks.specs.declared.pass.Position.{Position}
-use Rattle.mt_blocks.specs.Slices.{Piece, span_len, span_at, slice_count, piece, pieces, pieces_from, pass, piece_at, next_of, AreSpans, IsValid}
+use Rattle.mt_blocks.specs.Slices.{Piece, span_len, span_at, slice_count, piece, pieces, pieces_from, pass, from_next, piece_at, next_of, AreSpans, IsValid}
 use Rattle.mt_blocks.specs.Groups.{group_len, groups_up_to, ticks}
 use Rattle.mt_blocks.specs.Laws.{joined, GroupsAreThePass}
-use Rattle.mt_blocks.proofs.Passes.{count_inside, from_next, from_step}
+use Rattle.mt_blocks.proofs.Passes.{count_inside, from_step}
 
 -- no slice has more words than a tick may test
 abbrev pub AreSmall : ℕ → List Piece → Type 0

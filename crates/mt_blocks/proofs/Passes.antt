@@ -1,5 +1,6 @@
 -- The slices of a pass from a position on.
 use Rattle.std.proofs.Common.{ℕ, suc, ◌+◌, ◌-◌, ◌*◌, ◌/◌, ◌<◌, ◌≤◌, ◌≡◌, Bool, true, false, cond, ltb, List, [], ◌∷◌, ◌++◌, drop, length, get_or, Option, Some, None, refl, sym, ap, ◌∙◌, subst, arith}
+use Rattle.std.specs.Prelude.{IfSome}
 use Rattle.std.proofs.Math.Nat.{mul-div_cancel, div-lt_iff_lt-mul, le-div_iff_mul-le, add-mul, div-eq_of_lt}
 use Rattle.std.proofs.lemmas.Bool.Decides.{nat_tests}
 use Rattle.std.proofs.lemmas.Bool.{le-leb, lt-leb}
@@ -7,13 +8,8 @@ use Rattle.std.proofs.lemmas.List.{drop_more, drop_all, drop-append-le}
 use Rattle.std.proofs.lemmas.List.FromFn.{length-map-range_with_len, get_or-map-range_with_len}
 use Rattle.mt_blocks.specs.declared.span.Span.{Span}
 use Rattle.mt_blocks.specs.declared.pass.Position.{Position}
-use Rattle.mt_blocks.specs.Slices.{span_len, span_at, no_span, slice_count, Piece, piece, pieces, pieces_from, from_place, block_from, piece_at, next_of, start, start_of, AreSpans, IsValid}
+use Rattle.mt_blocks.specs.Slices.{span_len, span_at, no_span, slice_count, Piece, piece, pieces, pieces_from, from_place, from_next, block_from, piece_at, next_of, start, start_of, AreSpans, IsValid}
 use Rattle.mt_blocks.specs.Groups.{group_len}
-
--- what follows a position that may be none
-abbrev pub from_next : ℕ → List Span → Option Position → List Piece
-from_next K spans None = []
-from_next K spans (Some p) = from_place K spans p
 
 count_above : (K len k : ℕ) → 1 ≤ K → k * K < len → k < (len + K - 1) / K
 count_above K len k some h =
@@ -207,3 +203,11 @@ block_end K spans p ok valid last =
 pub block_first : (K : ℕ) (spans : List Span) (i : ℕ) → 1 ≤ K → block_from K spans (record { block = i; offset = 0 }) ≡ pieces K i (span_at spans i)
 unfolding block_from
 block_first K spans i some = ap (λ (n : ℕ). drop n (pieces K i (span_at spans i))) (div-eq_of_lt {n = 0} {m = K} (omega (arith, some)))
+
+-- so it is where there is one
+pub next-is_valid : (K : ℕ) (spans : List Span) (p : Position) → AreSpans K spans → IsValid K spans p → IfSome (next_of K spans p) (IsValid K spans)
+next-is_valid K spans p ok valid = of (next_of K spans p) refl
+  where
+    of : (o : Option Position) → next_of K spans p ≡ o → IfSome o (IsValid K spans)
+    of None e = tt
+    of (Some q) e = next_valid K spans p q ok valid e

@@ -6,9 +6,9 @@ use Rattle.std.proofs.lemmas.Bool.Decides.{leb_tells}
 use Rattle.std.proofs.lemmas.Bool.{lt-ltb}
 use Rattle.mt_blocks.specs.declared.span.Span.{Span}
 use Rattle.mt_blocks.specs.declared.pass.Position.{Position}
-use Rattle.mt_blocks.specs.Slices.{Piece, span_len, span_at, ends_block, from_place, piece_at, next_of, or_start, test_from, next_in, test_rest, AreSpans, IsValid}
+use Rattle.mt_blocks.specs.Slices.{Piece, span_len, span_at, ends_block, from_place, from_next, piece_at, next_of, or_start, test_from, next_in, test_rest, AreSpans, IsValid}
 use Rattle.mt_blocks.specs.Groups.{group_len}
-use Rattle.mt_blocks.proofs.Passes.{from_next, from_step, next_valid, block_step, block_end}
+use Rattle.mt_blocks.proofs.Passes.{from_step, next_valid, block_step, block_end}
 
 -- the first slice of a block
 pub start_valid : (K : ℕ) (spans : List Span) (i : ℕ) → AreSpans K spans → i < length spans → IsValid K spans (record { block = i; offset = 0 })

@@ -62,6 +62,11 @@ block_from K spans p = drop (p.offset / K) (pieces K p.block (span_at spans p.bl
 unfoldable pub from_place : ℕ → List Span → Position → List Piece
 from_place K spans p = drop (p.offset / K) (pieces_from K p.block (drop p.block spans))
 
+-- the slices of a pass from a position on that may be none
+abbrev pub from_next : ℕ → List Span → Option Position → List Piece
+from_next K spans None = []
+from_next K spans (Some p) = from_place K spans p
+
 -- the position of the next slice; none after the pass's last
 abbrev pub next_of : ℕ → List Span → Position → Option Position
 next_of K spans p =

@@ -12,6 +12,7 @@ pub use config::{Block, FlashBlock, FlsConfig, ParamSet, RamConfig};
 pub use laws::{groups_are_longest, groups_are_the_pass, slices_are_the_block};
 pub use list::List;
 pub use pass::{
-    Position, following, group_len, is_last, next_of_test, or_start, slice_at, ticks_of,
+    Position, first_place, following, group_len, is_last, next_of_test, or_start, slice_at,
+    ticks_of,
 };
 pub use span::{HasSpan, Span};

@@ -1,7 +1,7 @@
 //! Slices, passes, groups and ticks.
 
-ghost use Rattle.std.specs.Prelude.{◌≡◌, ◌≤◌, ◌+◌, length, map};
-ghost use Rattle.mt_blocks.specs.Slices.{AreSpans, IsValid, span_at, slice_of, ends_block, next_of, next_in, or_start, start_of, from_place, pass};
+ghost use Rattle.std.specs.Prelude.{ℕ, ◌≡◌, ◌≤◌, ◌+◌, ◌*◌, ◌∷◌, length, map, IfSome};
+ghost use Rattle.mt_blocks.specs.Slices.{AreSpans, IsValid, span_at, slice_of, ends_block, next_of, next_in, or_start, start_of, from_place, from_next, piece_at, pass};
 ghost use Rattle.mt_blocks.specs.Groups.{group_len, ticks};
 
 use crate::span::{HasSpan, span_in};
@@ -41,8 +41,8 @@ pub fn is_last<T: HasSpan>(blocks: &[T], atomic: u32, at: Position) -> bool
     span.last - span.first + 1 - at.offset <= atomic
 }
 
-/// The position of the next slice; none after the pass's last.
-pub fn following<T: HasSpan>(blocks: &[T], atomic: u32, at: Position) -> Option<Position>
+// The position of the next slice; none after the pass's last.
+fn next_place<T: HasSpan>(blocks: &[T], atomic: u32, at: Position) -> Option<Position>
     requires blocks { AreSpans atomic (map T.span_of blocks.now) }
     requires valid { IsValid atomic (map T.span_of blocks.now) at }
     ensures { result ≡ next_of atomic (map T.span_of blocks.now) at }
@@ -62,6 +62,18 @@ pub fn following<T: HasSpan>(blocks: &[T], atomic: u32, at: Position) -> Option<
     } else {
         None
     }
+}
+
+/// The position of the next slice; none after the pass's last.
+pub fn following<T: HasSpan>(blocks: &[T], atomic: u32, at: Position) -> Option<Position>
+    requires blocks { AreSpans atomic (map T.span_of blocks.now) }
+    requires valid { IsValid atomic (map T.span_of blocks.now) at }
+    ensures next { result ≡ next_of atomic (map T.span_of blocks.now) at }
+    ensures valid { IfSome result (IsValid atomic (map T.span_of blocks.now)) }
+    // The slices of a pass from a position on are its own, and then those from the next one on.
+    ensures rest { from_place atomic (map T.span_of blocks.now) at ≡ piece_at atomic (map T.span_of blocks.now) at ∷ from_next atomic (map T.span_of blocks.now) result }
+{
+    next_place(blocks, atomic, at)
 }
 
 /// How many slices the group has that begins at a position.
@@ -118,9 +130,13 @@ pub fn or_start(next: Option<Position>) -> Position
     }
 }
 
-// The position of a pass's first slice; none where there is no block.
-fn first_place<T: HasSpan>(blocks: &[T]) -> Option<Position>
-    ensures { result ≡ start_of (map T.span_of blocks.now) }
+/// The position of a pass's first slice; none where there is no block.
+pub fn first_place<T: HasSpan>(blocks: &[T]) -> Option<Position>
+    ensures first { result ≡ start_of (map T.span_of blocks.now) }
+    ensures valid { (K : ℕ) → AreSpans K (map T.span_of blocks.now) → IfSome result (IsValid K (map T.span_of blocks.now)) }
+    ensures all { (K : ℕ) → AreSpans K (map T.span_of blocks.now) → from_next K (map T.span_of blocks.now) result ≡ pass K (map T.span_of blocks.now) }
+    // A pass has at most as many slices as words.
+    ensures few { (K : ℕ) → AreSpans K (map T.span_of blocks.now) → length (pass K (map T.span_of blocks.now)) ≤ 64 * 65536 }
 {
     if blocks.is_empty() {
         return None;

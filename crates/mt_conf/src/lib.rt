@@ -18,4 +18,6 @@ pub use reading::read_config;
 pub use writing::write_config;
 
 #[cfg(test)]
+mod read_back;
+#[cfg(test)]
 mod tests;

@@ -22,9 +22,11 @@ use Rattle.mt_replay.specs.declared.form.Form.{Form}
 use Rattle.mt_replay.specs.declared.form.Form.TheVariants as forms
 use Rattle.mt_replay.specs.declared.form.Task.{Task}
 use Rattle.mt_replay.specs.Outcome.{Outcome, Run, ran, opening_text, board_after, bad_config, by_job, outcome, run_script, read_fault_text}
+use Rattle.mt_replay.specs.declared.form.Command.{Command}
+use Rattle.mt_replay.specs.Cut.{config_in}
 use Rattle.mt_port.specs.Causes.{Rose}
 use Rattle.mt_replay.specs.Run.{Change, UsesBoard, Ends, Breaks, Stops}
-use Rattle.mt_replay.specs.Replay.{outcomes, IsFound, IsStart, HasScript, FoundGives, Begins, BeginsEmpty, HeadFails, Concluded, TakenGive, JobGives, empty_text, empty_after, EmptyGives, StatusCaused, Told, Stood, Completes}
+use Rattle.mt_replay.specs.Replay.{Outcomes, outcomes, command_outcomes, IsFound, IsStart, HasScript, FoundGives, Begins, BeginsEmpty, HeadFails, Concluded, TakenGive, JobGives, empty_text, empty_after, EmptyGives, StatusCaused, Told, Stood, Completes}
 use Rattle.mt_replay.proofs.Forms.{scripted-as, board-is}
 use Rattle.mt_replay.proofs.Runs.{change}
 
@@ -61,7 +63,8 @@ found_follows (found.Refused why) kept x y value same h = λ form defect.
 found_follows (found.Config c script.Follows) kept x y value same h = record {
   front = h.front;
   taken = h.taken;
-  is = λ form ending defect rest. part_is kept x y form defect h ending rest ∙ value form ending defect (cut rest);
+  is = λ form ending defect rest. part_is kept x y form defect h ending rest ∙ value.0 form ending defect (cut rest);
+  config = λ ending rest. ap config_in (h.job ending rest) ∙ value.1 (cut rest);
 }
 found_follows (found.Config c script.Empty) kept x y value same h = absurd (follows_or_empty same)
 
@@ -75,7 +78,8 @@ pub found_empty : (found : Found) (kept x y : List ℕ) → IsFound found kept
 found_empty found.NoMemory kept x y value same h = tt
 found_empty (found.Refused why) kept x y value same h = λ form defect. end_is _ x y form defect h ∙ value form Finished defect (record { lines = []; rest = [] })
 found_empty (found.Config c script.Empty) kept x y value same h = record {
-  is = λ form defect. end_is _ x y form defect h ∙ value form Finished defect (record { lines = []; rest = [] });
+  is = λ form defect. end_is _ x y form defect h ∙ value.0 form Finished defect (record { lines = []; rest = [] });
+  config = ap config_in h.job ∙ value.1 (record { lines = []; rest = [] });
   all = h.all;
 }
 found_empty (found.Config c script.Follows) kept x y value same h = absurd (follows_or_empty (sym same))
@@ -110,14 +114,14 @@ told_after result how text more a b d k k' p (inr t) = inr (t.0, AppendsFront-af
 -- ---- the script
 
 -- what the script gives behind what stands before it, what the job gives
-abbrev opened : Task → Config → Run → Outcome
+abbrev pub opened : Task → Config → Run → Outcome
 opened task c run = ran task.form (opening_text task.form c) run
 
 job_is : (task : Task) (c : Config) (defect : Option MemoryFault) (m : Machine) (before : Board) (was tape : Option (List Touch)) (x y : List ℕ) (t : Begins c x y) (ending : Ending) (rest : List ℕ)
     → IsStart task c defect m before was tape → outcome task.form ending defect (t.front ++ rest) ≡ opened task c (run_script task ending m 1 (cut rest))
 job_is task c defect m before was tape x y t ending rest start = t.is task.form ending defect rest ∙ scripted-as task c defect ending m (cut rest) before was tape start
 
-finished_is : (task : Task) (c : Config) (defect : Option MemoryFault) (m : Machine) (before : Board) (was tape : Option (List Touch)) (x y : List ℕ) → Begins c x y → IsStart task c defect m before was tape
+pub finished_is : (task : Task) (c : Config) (defect : Option MemoryFault) (m : Machine) (before : Board) (was tape : Option (List Touch)) (x y : List ℕ) → Begins c x y → IsStart task c defect m before was tape
     → outcome task.form Finished defect x ≡ opened task c (run_script task Finished m 1 (cut y))
 finished_is task c defect m before was tape x y t start = ap (outcome task.form Finished defect) t.taken ∙ job_is task c defect m before was tape x y t Finished y start
 
@@ -154,7 +158,7 @@ ended_job how task c defect m before board held a b left h h' h'' was tape tape'
     by status.NoMemory e = absurd e.plain
 
 -- the bytes that were taken of the configuration and of the script
-broken_is : (task : Task) (c : Config) (defect : Option MemoryFault) (m : Machine) (before : Board) (was tape : Option (List Touch)) (run : Run) (held x y z : List ℕ) (t : Begins c x y) (front : List ℕ)
+pub broken_is : (task : Task) (c : Config) (defect : Option MemoryFault) (m : Machine) (before : Board) (was tape : Option (List Touch)) (run : Run) (held x y z : List ℕ) (t : Begins c x y) (front : List ℕ)
     → IsStart task c defect m before was tape → held ≡ [] → y ≡ front ++ (held ++ z) → run_script task Failed m 1 (cut front) ≡ run → TakenGive (outcomes task.form defect) (opened task c run) x z
 broken_is task c defect m before was tape run held x y z t front start none taken is = record {
   front = t.front ++ front;
@@ -286,18 +290,16 @@ not-risen : (k k' : ℕ) → Stood k k' → Rose k k' → ⊥
 not-risen k k' stood rose = omega (arith, stood.0, stood.1, rose)
 
 -- an end other than Done is not what an accepted job gives
-other-end : (how : Status) (form : Form) (defect : Option MemoryFault) (old new : Board) (x : Change) (bytes : List ℕ) → x.left ≡ Some bytes → Concluded (outcomes form defect) how old new x
-    → (outcome form Finished defect bytes).status ≡ status.Done → how ≡ status.Done
-other-end how form defect old new x bytes e c done =
-    sym (ap (λ (o : Outcome). o.status) (told-at x.left x.left' _ bytes e c.outcome).1) ∙ done
+other-end : (how : Status) (given : Outcomes) (old new : Board) (x : Change) (bytes : List ℕ) → x.left ≡ Some bytes → Concluded given how old new x → (given Finished bytes).status ≡ status.Done → how ≡ status.Done
+other-end how given old new x bytes e c done = sym (ap (λ (o : Outcome). o.status) (told-at x.left x.left' _ bytes e c.outcome).1) ∙ done
 
-pub completes : (result : Status) (form : Form) (defect : Option MemoryFault) (old new : Board) (x : Change) (k k' s s' : ℕ) → JobGives result (outcomes form defect) old new x → StatusCaused result k k' s s'
-    → Completes (Some form) result defect x.left k k' s s'
-completes status.Done form defect old new x k k' s s' gives cause source sink bytes e done = inl refl
-completes (status.BadConfig code) form defect old new x k k' s s' gives cause source sink bytes e done = inl (other-end (status.BadConfig code) form defect old new x bytes e gives done)
-completes (status.BadScript line code place) form defect old new x k k' s s' gives cause source sink bytes e done =
-    inl (other-end (status.BadScript line code place) form defect old new x bytes e gives done)
-completes status.ReadFault form defect old new x k k' s s' gives cause source sink bytes e done = absurd (not-risen k k' source cause.0)
-completes status.WriteFault form defect old new x k k' s s' gives cause source sink bytes e done = absurd (not-risen s s' sink cause)
-completes status.NoMemory form defect old new x k k' s s' gives cause source sink bytes e done = inr refl
-completes status.Usage form defect old new x k k' s s' gives cause source sink bytes e done = absurd gives
+pub completes : (result : Status) (command : Command) (defect : Option MemoryFault) (old new : Board) (x : Change) (k k' s s' : ℕ) → JobGives result (command_outcomes command defect) old new x
+    → StatusCaused result k k' s s' → Completes (Some command) result defect x.left k k' s s'
+completes status.Done command defect old new x k k' s s' gives cause source sink bytes e done = inl refl
+completes (status.BadConfig code) command defect old new x k k' s s' gives cause source sink bytes e done = inl (other-end (status.BadConfig code) (command_outcomes command defect) old new x bytes e gives done)
+completes (status.BadScript line code place) command defect old new x k k' s s' gives cause source sink bytes e done =
+    inl (other-end (status.BadScript line code place) (command_outcomes command defect) old new x bytes e gives done)
+completes status.ReadFault command defect old new x k k' s s' gives cause source sink bytes e done = absurd (not-risen k k' source cause.0)
+completes status.WriteFault command defect old new x k k' s s' gives cause source sink bytes e done = absurd (not-risen s s' sink cause)
+completes status.NoMemory command defect old new x k k' s s' gives cause source sink bytes e done = inr refl
+completes status.Usage command defect old new x k k' s s' gives cause source sink bytes e done = absurd gives

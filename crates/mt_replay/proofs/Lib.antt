@@ -11,3 +11,5 @@ pub mod Latencies
 pub mod Feedless
 pub mod Openings
 pub mod Fixed
+pub mod Ticks
+pub mod Cuts

@@ -8,3 +8,5 @@ pub mod Head
 pub mod Replay
 pub mod Latency
 pub mod Fixed
+pub mod Cut
+pub mod CutJob

@@ -1,5 +1,5 @@
 -- What the top call does.
-use Rattle.std.specs.Prelude.{ℕ, ◌-◌, ◌^◌, ◌<◌, ◌≡◌, ◌⊎◌, false, if◌then◌else◌, List, [], ◌∷◌, ◌++◌, codes, Option, Some, None, String, string_bytes}
+use Rattle.std.specs.Prelude.{ℕ, option_map, ◌-◌, ◌^◌, ◌<◌, ◌≡◌, ◌⊎◌, false, if◌then◌else◌, List, [], ◌∷◌, ◌++◌, codes, Option, Some, None, String, string_bytes}
 use Rattle.std.specs.declared.alloc.Global.{Global}
 use Rattle.std.specs.Str.{bytes_eq}
 use Rattle.std.specs.Io.KnownBytes.{Appends}
@@ -8,6 +8,7 @@ use Rattle.mt_port.specs.Streams.{AppendsFront, WhereTold}
 use Rattle.mt_port.specs.Board.{Board, Logs}
 use Rattle.mt_port.specs.declared.board.Touch.{Touch}
 use Rattle.mt_fault.specs.declared.fault.Fault.{Fault}
+use Rattle.mt_text.specs.Tokens.{number_of}
 use Rattle.mt_conf.specs.declared.config.Config.{Config}
 use Rattle.mt_conf.specs.Accepted.{IsAcceptedConfig}
 use Rattle.mt_replay.specs.declared.job.Found.{Found}
@@ -16,24 +17,40 @@ use Rattle.mt_replay.specs.declared.job.Script.{Script}
 use Rattle.mt_replay.specs.declared.job.Script.TheVariants as script
 use Rattle.mt_replay.specs.declared.status.Status.{Status}
 use Rattle.mt_replay.specs.declared.status.Status.TheVariants as status
-use Rattle.mt_replay.specs.Input.{Ending, Finished, Failed, Cut, cut, Parted}
+use Rattle.mt_replay.specs.Input.{Ending, Finished, Failed, Cut, cut, Parted, job_of}
 use Rattle.mt_replay.specs.Run.{Change}
 use Rattle.mt_replay.specs.Machine.{Machine, started}
 use Rattle.mt_replay.specs.Outcome.{After, Outcome, bad_config, done, closing_text, opening_text, board_after, scripted, by_job, outcome, read_fault_text}
+use Rattle.mt_replay.specs.declared.form.Ask.{Ask}
+use Rattle.mt_replay.specs.declared.form.Command.{Command}
+use Rattle.mt_replay.specs.declared.form.Command.TheVariants.{Job, Cut as Cuts}
 use Rattle.mt_replay.specs.declared.form.Form.{Form}
 use Rattle.mt_replay.specs.declared.form.Form.TheVariants as forms
 use Rattle.mt_replay.specs.declared.form.Task.{Task}
+use Rattle.mt_replay.specs.Cut.{cut_outcome, config_in, TicksAreLeast}
 
--- the form that the words ask for, if they are one
+-- the form of a job that a word asks for, if it is one
 abbrev pub form_named : List ℕ → Option Form
 form_named name =
     if bytes_eq name (codes "run") then Some forms.Run
     else (if bytes_eq name (codes "check") then Some forms.Check else (if bytes_eq name (codes "fmt") then Some forms.Format else None))
 
-abbrev pub form_of : List (String Global) → Option Form
-form_of [] = None
-form_of (word ∷ []) = form_named (string_bytes word)
-form_of (word ∷ other ∷ words) = None
+-- what a word and three numbers ask for, if the word is `cut` and the numbers are spelled as those of script lines
+abbrev pub ask_of : Option ℕ → Option ℕ → Option ℕ → Option Ask
+ask_of (Some set) (Some budget) (Some wait) = Some (record { set = set; budget = budget; wait = wait })
+ask_of set budget wait = None
+
+abbrev pub ask_named : (name set budget wait : List ℕ) → Option Ask
+ask_named name set budget wait = if bytes_eq name (codes "cut") then ask_of (number_of set) (number_of budget) (number_of wait) else None
+
+-- what the words ask for, if they are a form
+abbrev pub command_of : List (String Global) → Option Command
+command_of [] = None
+command_of (word ∷ []) = option_map Job (form_named (string_bytes word))
+command_of (word ∷ set ∷ []) = None
+command_of (word ∷ set ∷ budget ∷ []) = None
+command_of (word ∷ set ∷ budget ∷ wait ∷ []) = option_map Cuts (ask_named (string_bytes word) (string_bytes set) (string_bytes budget) (string_bytes wait))
+command_of (word ∷ set ∷ budget ∷ wait ∷ other ∷ words) = None
 
 abbrev pub usage_text : List ℕ
 usage_text = codes "usage\n"
@@ -114,9 +131,17 @@ StatusCaused how source source' sink sink' = (source' ≡ source) × (sink' ≡ 
 abbrev pub outcomes : Form → Option Fault → Outcomes
 outcomes form defect ending bytes = outcome form ending defect bytes
 
+-- what bytes give where the cuts of a set are asked for
+abbrev pub cut_outcomes : Ask → Option Fault → Outcomes
+cut_outcomes ask defect ending bytes = cut_outcome ask ending defect bytes
+
+abbrev pub command_outcomes : Command → Option Fault → Outcomes
+command_outcomes (Job form) defect = outcomes form defect
+command_outcomes (Cuts ask) defect = cut_outcomes ask defect
+
 -- Words that are no form leave the source and the board, and are told; a form does what it asks for with the job.
-abbrev pub Replays : Option Form → Status → Option Fault → (old new : Board) → Change → (sink sink' : ℕ) → Type 0
-Replays (Some form) result defect old new x sink sink' = JobGives result (outcomes form defect) old new x
+abbrev pub Replays : Option Command → Status → Option Fault → (old new : Board) → Change → (sink sink' : ℕ) → Type 0
+Replays (Some command) result defect old new x sink sink' = JobGives result (command_outcomes command defect) old new x
 Replays None result defect old new x sink sink' =
     Told result status.Usage usage_text x.held x.held' sink sink' × (x.left' ≡ x.left) × (new ≡ old) × (x.tape' ≡ x.tape)
 
@@ -125,11 +150,17 @@ abbrev pub Stood : ℕ → ℕ → Type 0
 Stood before now = (now ≡ before) × (before < 2 ^ 64 - 1)
 
 -- Where neither stream failed, an accepted job ends in Done, or no memory was found.
-abbrev pub Completes : Option Form → Status → Option Fault → (left : Option (List ℕ)) → (source source' sink sink' : ℕ) → Type 0
+abbrev pub Completes : Option Command → Status → Option Fault → (left : Option (List ℕ)) → (source source' sink sink' : ℕ) → Type 0
 Completes None result defect left source source' sink sink' = Unit {0}
-Completes (Some form) result defect left source source' sink sink' =
-    Stood source source' → Stood sink sink' → (bytes : List ℕ) → left ≡ Some bytes → (outcome form Finished defect bytes).status ≡ status.Done
+Completes (Some command) result defect left source source' sink sink' =
+    Stood source source' → Stood sink sink' → (bytes : List ℕ) → left ≡ Some bytes → (command_outcomes command defect Finished bytes).status ≡ status.Done
     → (result ≡ status.Done) ⊎ (result ≡ status.NoMemory)
+
+-- Where the cuts of a set are asked for, no cut under the budget has fewer ticks than are told.
+abbrev pub TellsLeastTicks : Option Command → Option Fault → Type 0
+TellsLeastTicks None defect = Unit {0}
+TellsLeastTicks (Some (Job form)) defect = Unit {0}
+TellsLeastTicks (Some (Cuts ask)) defect = TicksAreLeast ask defect
 
 -- ---- between the two
 
@@ -138,7 +169,8 @@ abbrev pub IsFound : Found → List ℕ → Type 0
 IsFound found.NoMemory kept = Unit {0}
 IsFound (found.Refused why) kept = (form : Form) (ending : Ending) (defect : Option Fault) (lines : Cut) → by_job form ending defect (Parted kept lines) ≡ bad_config why
 IsFound (found.Config c script) kept =
-    (form : Form) (ending : Ending) (defect : Option Fault) (lines : Cut) → by_job form ending defect (Parted kept lines) ≡ scripted form c ending (started c defect) lines
+    ((form : Form) (ending : Ending) (defect : Option Fault) (lines : Cut) → by_job form ending defect (Parted kept lines) ≡ scripted form c ending (started c defect) lines)
+    × ((lines : Cut) → config_in (Parted kept lines) ≡ Some c)
 
 -- a configuration comes with this script
 abbrev pub HasScript : Script → Found → Type 0
@@ -167,10 +199,12 @@ pub record Begins (c : Config) (before after : List ℕ) : Type 0 where
   pub front : List ℕ
   pub taken : before ≡ front ++ after
   pub is : (form : Form) (ending : Ending) (defect : Option Fault) (rest : List ℕ) → outcome form ending defect (front ++ rest) ≡ scripted form c ending (started c defect) (cut rest)
+  pub config : (ending : Ending) (rest : List ℕ) → config_in (job_of ending (front ++ rest)) ≡ Some c
 
 -- The input ended with the configuration's separator.
 pub record BeginsEmpty (c : Config) (before after : List ℕ) : Type 0 where
   pub is : (form : Form) (defect : Option Fault) → outcome form Finished defect before ≡ scripted form c Finished (started c defect) (record { lines = []; rest = [] })
+  pub config : config_in (job_of Finished before) ≡ Some c
   pub all : after ≡ []
 
 abbrev pub FoundGives : Found → (before after : List ℕ) → Type 0

@@ -13,9 +13,10 @@ ghost use Rattle.mt_replay.specs.Machine.{Machine, IsReady, started};
 ghost use Rattle.mt_replay.specs.Outcome.{opening_text, bad_config, bad_config_text, by_job, rule_number as number_of_rule};
 ghost use Rattle.mt_replay.specs.Run.{IsReadyFor, UsesBoard};
 ghost use Rattle.mt_replay.specs.Latency.{RequestsWaitShortly};
-ghost use Rattle.mt_replay.specs.Replay.{form_named, form_of, IsAcceptedFound, FoundGives, HeadFails, Begins, EmptyGives, HasScript, IsFound, IsStart, JobGives, Replays, StatusCaused, StaysFree, Completes, Told, outcomes};
+ghost use Rattle.mt_replay.specs.Replay.{form_named, ask_of, ask_named, command_of, command_outcomes, TellsLeastTicks, IsAcceptedFound, FoundGives, HeadFails, Begins, EmptyGives, HasScript, IsFound, IsStart, JobGives, Replays, StatusCaused, StaysFree, Completes, Told, outcomes};
 
-use crate::form::{Form, Task};
+use crate::cut_job::cut_found;
+use crate::form::{Ask, Command, Form, Task};
 use crate::head::{HEAD_ROOM, Head, read_head};
 use crate::input::Input;
 use crate::modules::Modules;
@@ -24,7 +25,9 @@ use crate::run::{Fault, run_script};
 use crate::status::Status;
 use crate::text::{bad_config_text, done_text};
 use mt_conf::{Config, ConfigRefusal, read_config, write_config};
+use mt_cut::longest_runs_are_least;
 use mt_port::{Bench, Failed, Sink, Source, put};
+use mt_text::number_of;
 use mt_word::NoMemory;
 use std::alloc::Global;
 
@@ -109,8 +112,8 @@ fn power_up<B: Bench>(alloc: Global, config: Config, board: &mut B) -> Result<Mo
     }
 }
 
-// Writes one text. Answers the status, or that the sink failed.
-fn tell<K: Sink>(sink: &mut K, text: &[u8], status: Status) -> Status
+/// Writes one text. Answers the status, or that the sink failed.
+pub(crate) fn tell<K: Sink>(sink: &mut K, text: &[u8], status: Status) -> Status
     ensures { Told result status text.now (K.held sink.old) (K.held sink.new) (K.faults sink.old) (K.faults sink.new) }
 {
     match put(sink, text) {
@@ -119,8 +122,8 @@ fn tell<K: Sink>(sink: &mut K, text: &[u8], status: Status) -> Status
     }
 }
 
-// Writes the text of a refused configuration.
-fn tell_refused<K: Sink>(sink: &mut K, why: &Refused) -> Status
+/// Writes the text of a refused configuration.
+pub(crate) fn tell_refused<K: Sink>(sink: &mut K, why: &Refused) -> Status
     ensures { Told result (Status.BadConfig (number_of_rule why.now)) (bad_config_text why.now) (K.held sink.old) (K.held sink.new) (K.faults sink.old) (K.faults sink.new) }
 {
     tell(
@@ -318,15 +321,37 @@ fn replay_found<S: Source, K: Sink, B: Bench>(
     }
 }
 
-// Does what a form asks for with the job that the source has left.
-fn replay_job<S: Source, K: Sink, B: Bench>(
+// Does what the words ask for with what was found.
+fn answer_found<S: Source, K: Sink, B: Bench>(
     alloc: Global,
-    form: Form,
+    command: Command,
+    found: Found,
+    input: &mut Input,
     source: &mut S,
     sink: &mut K,
     board: &mut B,
 ) -> Status
-    ensures gives { JobGives result (outcomes form (B.state board.old).defect) (B.state board.old) (B.state board.new)
+    requires { IsAcceptedFound found }
+    ensures gives { (a : Option (List ℕ)) → WhereTold a (prepend_known input.old (S.left source.old)) (FoundGives found) → JobGives result (command_outcomes command (B.state board.old).defect) (B.state board.old) (B.state board.new)
+        (record { left = a; left' = S.left source.new; held = K.held sink.old; held' = K.held sink.new; tape = B.tape board.old; tape' = B.tape board.new }) }
+    ensures cause { StatusCaused result (S.faults source.old) (S.faults source.new) (K.faults sink.old) (K.faults sink.new) }
+    ensures free { StaysFree (B.state board.old) (B.state board.new) }
+{
+    match command {
+        Command::Job(form) => replay_found(alloc, form, found, input, source, sink, board),
+        Command::Cut(ask) => cut_found(alloc, ask, found, input, source, sink, board),
+    }
+}
+
+// Does what the words ask for with the job that the source has left.
+fn replay_job<S: Source, K: Sink, B: Bench>(
+    alloc: Global,
+    command: Command,
+    source: &mut S,
+    sink: &mut K,
+    board: &mut B,
+) -> Status
+    ensures gives { JobGives result (command_outcomes command (B.state board.old).defect) (B.state board.old) (B.state board.new)
         (record { left = S.left source.old; left' = S.left source.new; held = K.held sink.old; held' = K.held sink.new; tape = B.tape board.old; tape' = B.tape board.new }) }
     ensures cause { StatusCaused result (S.faults source.old) (S.faults source.new) (K.faults sink.old) (K.faults sink.new) }
     ensures free { StaysFree (B.state board.old) (B.state board.new) }
@@ -336,12 +361,12 @@ fn replay_job<S: Source, K: Sink, B: Bench>(
     };
     let mut input = Input::new();
     match find(alloc, &mut input, source, &mut kept) {
-        Ok(found) => replay_found(alloc, form, found, &mut input, source, sink, board),
+        Ok(found) => answer_found(alloc, command, found, &mut input, source, sink, board),
         Err(_) => tell(sink, b"read fault\n", Status::ReadFault),
     }
 }
 
-// The form that a word asks for.
+// The form of a job that a word asks for.
 fn form_named(word: &[u8]) -> Option<Form>
     ensures { result ≡ form_named word.now }
 {
@@ -357,19 +382,55 @@ fn form_named(word: &[u8]) -> Option<Form>
     None
 }
 
-fn form_of(words: &[String]) -> Option<Form>
-    ensures { result ≡ form_of words.now }
+// A set, a budget and a wait, where all three are numbers.
+fn ask_of(set: Option<u32>, budget: Option<u32>, wait: Option<u32>) -> Option<Ask>
+    ensures { result ≡ ask_of set budget wait }
+{
+    Some(Ask {
+        set: set?,
+        budget: budget?,
+        wait: wait?,
+    })
+}
+
+// What a word and three numbers ask for.
+fn ask_named(word: &[u8], set: &[u8], budget: &[u8], wait: &[u8]) -> Option<Ask>
+    ensures { result ≡ ask_named word.now set.now budget.now wait.now }
+{
+    if word == b"cut".as_slice() {
+        return ask_of(number_of(set), number_of(budget), number_of(wait));
+    }
+    None
+}
+
+fn command_of(words: &[String]) -> Option<Command>
+    ensures { result ≡ command_of words.now }
 {
     match words {
-        [word] => form_named(word.as_bytes()),
+        [word] => match form_named(word.as_bytes()) {
+            Some(form) => Some(Command::Job(form)),
+            None => None,
+        },
+        [word, set, budget, wait] => {
+            match ask_named(
+                word.as_bytes(),
+                set.as_bytes(),
+                budget.as_bytes(),
+                wait.as_bytes(),
+            ) {
+                Some(ask) => Some(Command::Cut(ask)),
+                None => None,
+            }
+        }
         _ => None,
     }
 }
 
 /// Does what the words after the program's name ask for: `run` reads a job from the source, replays it on the board and
 /// writes its trace to the sink; `check` reads a job and writes the closing line alone; `fmt` reads a job and writes it
-/// in canonical form, without a closing line. All other words answer `Usage`. Memory is taken before the first byte is
-/// written.
+/// in canonical form, without a closing line; `cut S T L` reads a job and writes the fewest ticks in which a pass over
+/// its set S may be cut with at most T accesses per tick, and the greatest slice for which no request waits longer than
+/// L accesses. All other words answer `Usage`. Memory is taken before the first byte is written.
 pub fn replay<S: Source, K: Sink, B: Bench>(
     alloc: Global,
     words: &[String],
@@ -377,17 +438,21 @@ pub fn replay<S: Source, K: Sink, B: Bench>(
     sink: &mut K,
     board: &mut B,
 ) -> Status
-    ensures gives { Replays (form_of words.now) result (B.state board.old).defect (B.state board.old) (B.state board.new)
+    ensures gives { Replays (command_of words.now) result (B.state board.old).defect (B.state board.old) (B.state board.new)
         (record { left = S.left source.old; left' = S.left source.new; held = K.held sink.old; held' = K.held sink.new; tape = B.tape board.old; tape' = B.tape board.new }) (K.faults sink.old) (K.faults sink.new) }
     ensures cause { StatusCaused result (S.faults source.old) (S.faults source.new) (K.faults sink.old) (K.faults sink.new) }
     ensures free { StaysFree (B.state board.old) (B.state board.new) }
     // Where neither stream failed, an accepted job ends in `Done`, or no memory was found.
-    ensures complete { Completes (form_of words.now) result (B.state board.old).defect (S.left source.old) (S.faults source.old) (S.faults source.new) (K.faults sink.old) (K.faults sink.new) }
+    ensures complete { Completes (command_of words.now) result (B.state board.old).defect (S.left source.old) (S.faults source.old) (S.faults source.new) (K.faults sink.old) (K.faults sink.new) }
     // Whatever bytes a job has, each request of its replay waits 0, or less than the length of the sequence that it meets.
     ensures latency { RequestsWaitShortly (B.state board.old).defect }
+    // Whatever bytes a job has, no cut under the budget has fewer ticks than `cut` tells.
+    ensures least { TellsLeastTicks (command_of words.now) (B.state board.old).defect }
 {
-    match form_of(words) {
-        Some(form) => replay_job(alloc, form, source, sink, board),
+    // No cut under a budget has fewer ticks than the longest runs.
+    longest_runs_are_least();
+    match command_of(words) {
+        Some(command) => replay_job(alloc, command, source, sink, board),
         None => tell(sink, b"usage\n", Status::Usage),
     }
 }

@@ -1,6 +1,8 @@
 //! Replays, checks and formats a job: bytes in, bytes out.
 #![tactic(auto)]
 
+mod cut;
+mod cut_job;
 mod event;
 mod form;
 mod head;
@@ -13,8 +15,9 @@ mod run;
 mod status;
 mod text;
 
+pub use cut_job::Checked;
 pub use event::{FlsRunning, Running};
-pub use form::{Form, Task};
+pub use form::{Ask, Command, Form, Task};
 pub use head::Head;
 pub use input::{Input, Line, LineText};
 pub use job::{Found, Script, replay};

@@ -27,6 +27,7 @@ pub use line::{Event, FlsCall, Line, LineKind, LineRefusal, RamCall};
 pub use line_text::write_line;
 pub use reading::read_line;
 pub use text::{push_bytes, push_number, push_word};
+pub use token::number_of;
 
 #[cfg(test)]
 mod tests;

@@ -1,8 +1,7 @@
 use Rattle.std.proofs.Common.{◌≡◌, ◌+◌, ◌*◌, ◌≤◌, Some, map, length}
 use Rattle.mt_blocks.specs.declared.pass.Position.{Position}
-use Rattle.mt_blocks.specs.Slices.{IsValid, pass}
+use Rattle.mt_blocks.specs.Slices.{IsValid, from_next, pass}
 use Rattle.mt_blocks.specs.Groups.{ticks}
-use Rattle.mt_blocks.proofs.Passes.{from_next}
 use Rattle.mt_blocks.proofs.Cuts.{opened}
 use Rattle.mt_blocks.proofs.pass.ticks_of.Given as goal
 

@@ -1,19 +1,26 @@
 use Rattle.std.proofs.Common.{sym, ◌∙◌, subst, Option}
-use Rattle.mt_replay.specs.declared.form.Form.{Form}
+use Rattle.mt_replay.specs.declared.form.Command.{Command}
 use Rattle.mt_replay.specs.Replay.{Completes}
 use Rattle.mt_replay.proofs.Jobs.{completes}
 use Rattle.mt_replay.proofs.Latencies.{requests_wait_shortly}
+use Rattle.mt_replay.proofs.Cuts.{command_least}
 use Rattle.mt_replay.proofs.job.replay.Goals as goal
 
 pub returns-in-Some-clause-complete : goal.returns-in-Some-clause-complete
 returns-in-Some-clause-complete g c =
     let job = c.replay_job.ensures in
-    subst (λ (f : Option Form). Completes f c.replay_job.result (g.B.Port.state c.args.board.now).defect (g.S.Source.left c.args.source.now) (g.S.Source.faults c.args.source.now) (g.S.Source.faults c.replay_job.new.source) (g.K.Sink.faults c.args.sink.now) (g.K.Sink.faults c.replay_job.new.sink))
-    (sym (sym c.form_of.ensures ∙ c.in-Some.is))
-    (completes c.replay_job.result c.in-Some.form (g.B.Port.state c.args.board.now).defect _ _ _ _ _ _ _ job.gives job.cause)
+    subst (λ (command : Option Command). Completes command c.replay_job.result (g.B.Port.state c.args.board.now).defect (g.S.Source.left c.args.source.now) (g.S.Source.faults c.args.source.now) (g.S.Source.faults c.replay_job.new.source) (g.K.Sink.faults c.args.sink.now) (g.K.Sink.faults c.replay_job.new.sink))
+    (sym (sym c.command_of.ensures ∙ c.in-Some.is))
+    (completes c.replay_job.result c.in-Some.command (g.B.Port.state c.args.board.now).defect _ _ _ _ _ _ _ job.gives job.cause)
 
 pub returns-in-Some-clause-latency : goal.returns-in-Some-clause-latency
 returns-in-Some-clause-latency g c = requests_wait_shortly (g.B.Port.state c.args.board.now).defect
 
 pub returns-in-None-clause-latency : goal.returns-in-None-clause-latency
 returns-in-None-clause-latency g c = requests_wait_shortly (g.B.Port.state c.args.board.now).defect
+
+pub returns-in-Some-clause-least : goal.returns-in-Some-clause-least
+returns-in-Some-clause-least g c = command_least c.longest_runs_are_least.ensures.under c.longest_runs_are_least.ensures.least _ (g.B.Port.state c.args.board.now).defect
+
+pub returns-in-None-clause-least : goal.returns-in-None-clause-least
+returns-in-None-clause-least g c = command_least c.longest_runs_are_least.ensures.under c.longest_runs_are_least.ensures.least _ (g.B.Port.state c.args.board.now).defect

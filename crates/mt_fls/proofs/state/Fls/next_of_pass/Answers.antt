@@ -13,7 +13,7 @@ returns-clause-valid c =
     let same = c.config-config.ensures.config in
     let ok = subst (λ (x : FlsConfig). AreSpans x.atomic (flash_spans x.bgnd)) same c.config-config.ensures.bgnd in
     let next : c.following.result ≡ next_of f.setting.config.atomic (bgnd_spans f) c.args.at =
-    c.following.ensures
+    c.following.ensures.next
     ∙ ap (λ (l : List FlashBlock). next_of c.config-config.result.now.atomic (flash_spans l) c.args.at) c.as_slice.ensures
     ∙ ap (λ (x : FlsConfig). next_of x.atomic (flash_spans x.bgnd) c.args.at) same in
     λ p e. next_valid f.setting.config.atomic (bgnd_spans f) c.args.at p ok c.requires (sym next ∙ e)

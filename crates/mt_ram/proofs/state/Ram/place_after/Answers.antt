@@ -13,5 +13,5 @@ returns-clause-valid c =
     let spans = subst (λ (x : ParamSet). AreSpans x.atomic (spans_of x.blocks)) c.set-set.ensures.set c.set-set.ensures.spans in
     let next = ap (λ (l : List Block). or_start (next_of c.set-set.result.now.atomic (spans_of l) c.args.at)) c.as_slice.ensures
     ∙ ap (λ (x : ParamSet). or_start (next_of x.atomic (spans_of x.blocks) c.args.at)) c.set-set.ensures.set in
-    subst (IsValid (set_of r).atomic (spans_in r)) (sym (c.or_start.ensures ∙ ap or_start c.following.ensures ∙ next))
+    subst (IsValid (set_of r).atomic (spans_in r)) (sym (c.or_start.ensures ∙ ap or_start c.following.ensures.next ∙ next))
     (or_start-valid (set_of r).atomic (spans_in r) c.args.at spans c.requires)

@@ -1,0 +1,6 @@
+pub mod Sets
+pub mod Greedy
+pub mod Ahead
+pub mod Places
+pub mod Largest
+pub mod Example
