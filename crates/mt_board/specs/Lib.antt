@@ -1,3 +1,4 @@
+pub mod Requests
 pub mod Stores
 pub mod Board
 pub mod Sound

@@ -2,6 +2,7 @@
 
 ghost use Rattle.std.specs.Prelude.{◌≡◌, ◌<◌, ◌≤◌, ◌+◌, ◌-◌, ◌^◌, ℕ, length, slice_index, slice_set, reverse, Some, None, OnOk, OnErr, true, false, [], ◌∷◌, ◌++◌};
 ghost use Rattle.std.specs.Option.{option_copied};
+ghost use Rattle.mt_board.specs.Requests.{is_due, least_urgent};
 
 use crate::stores::Stores;
 use arrayvec::ArrayVec;
@@ -18,12 +19,40 @@ pub struct SimBoard {
     stores: Option<Stores>,
     defect: Option<Fault>,
     held: bool,
+    since: u32,
     count: u32,
     // The requests left, the last one first.
     later: ArrayVec<Request, 16>,
     taken: u8,
+    // The least offset of an urgent request left.
+    urgent: Option<u32>,
+    operations: u32,
     tape: Tape,
     ghost few: { taken + length later.items ≤ 16 },
+    ghost least: { urgent ≡ least_urgent later.items },
+}
+
+// The least offset of an urgent request.
+fn least_urgent(requests: &[Request]) -> Option<u32>
+    ensures { result ≡ least_urgent requests.now }
+{
+    let mut least = None;
+    for request in requests {
+        if request.urgent {
+            least = Some(least.map_or(request.offset, |offset: u32| offset.min(request.offset)));
+        }
+    }
+    least
+}
+
+// Whether a least offset is due.
+fn is_due(least: Option<u32>, count: u32) -> bool
+    ensures { result ≡ is_due count least }
+{
+    match least {
+        Some(offset) => offset <= count,
+        None => false,
+    }
 }
 
 impl SimBoard {
@@ -31,38 +60,38 @@ impl SimBoard {
     ghost use Rattle.mt_word.specs.Word.{Fits};
     ghost use Rattle.mt_fault.specs.History.{Read, Write};
     ghost use Rattle.mt_port.specs.Board.{after, answered};
-    ghost use Rattle.mt_board.specs.Board.{unpowered, sim_state, sim_tape, sim_defect};
+    ghost use Rattle.mt_board.specs.Board.{unpowered, sim_state, sim_tape};
 
     /// A board without words and without a defect.
     pub fn new() -> SimBoard
-        ensures state { sim_state result ≡ unpowered }
+        ensures state { sim_state result ≡ unpowered None }
         ensures tape { sim_tape result ≡ Some [] }
-        ensures defect { sim_defect result ≡ None }
     {
         SimBoard::made_with(None)
     }
 
     /// A board without words, whose RAM has this defect from its power-up on.
     pub fn with_defect(fault: Fault) -> SimBoard
-        ensures state { sim_state result ≡ unpowered }
+        ensures state { sim_state result ≡ unpowered (Some fault) }
         ensures tape { sim_tape result ≡ Some [] }
-        ensures defect { sim_defect result ≡ Some fault }
     {
         SimBoard::made_with(Some(fault))
     }
 
     fn made_with(defect: Option<Fault>) -> SimBoard
-        ensures state { sim_state result ≡ unpowered }
+        ensures state { sim_state result ≡ unpowered defect }
         ensures tape { sim_tape result ≡ Some [] }
-        ensures defect { sim_defect result ≡ defect }
     {
         SimBoard {
             stores: None,
             defect,
             held: false,
+            since: 0,
             count: 0,
             later: ArrayVec::new(),
             taken: 0,
+            urgent: None,
+            operations: 0,
             tape: Tape::new(),
         }
     }
@@ -81,7 +110,6 @@ impl SimBoard {
         ensures fits { Fits (sim_state self.old).shape.width result }
         ensures state { sim_state self.new ≡ record (sim_state self.old) { words = after (sim_state self.old).fault (sim_state self.old).words (Read addr) } }
         ensures tape { sim_tape self.new ≡ sim_tape self.old }
-        ensures defect { sim_defect self.new ≡ sim_defect self.old }
     {
         match &mut self.stores {
             Some(stores) => stores.read(addr),
@@ -95,7 +123,6 @@ impl SimBoard {
         requires word { Fits (sim_state self.old).shape.width word }
         ensures state { sim_state self.new ≡ record (sim_state self.old) { words = after (sim_state self.old).fault (sim_state self.old).words (Write addr word) } }
         ensures tape { sim_tape self.new ≡ sim_tape self.old }
-        ensures defect { sim_defect self.new ≡ sim_defect self.old }
     {
         match &mut self.stores {
             Some(stores) => stores.write(addr, word),
@@ -117,11 +144,6 @@ impl SimBoard {
 }
 
 impl Port for SimBoard {
-    ghost use Rattle.mt_word.specs.Word.{Fits};
-    ghost use Rattle.mt_fault.specs.History.{Read, Write};
-    ghost use Rattle.mt_port.specs.declared.board.Touch.{Touch};
-    ghost use Rattle.mt_port.specs.Board.{after, answered};
-    ghost use Rattle.mt_port.specs.Tape.{recorded};
     ghost use Rattle.mt_board.specs.Board.{sim_state, sim_tape};
     ghost use Rattle.mt_board.specs.Sound.{sound_with};
 
@@ -129,58 +151,39 @@ impl Port for SimBoard {
 
     ghost tape = { λ b. sim_tape b };
 
-    ghost sound = { λ b. sound_with b.stores b.held b.count b.later.items b.taken b.few };
+    ghost keeps = { 256 };
+
+    ghost sound = { λ b. sound_with b.stores b.held b.since b.count b.later.items b.taken b.operations b.defect b.few };
 
     fn hold(&mut self) {
         self.held = true;
+        self.since = self.count;
     }
 
     fn release(&mut self) {
         self.held = false;
     }
 
-    fn read(&mut self, addr: u32) -> u64
-        requires held { (sim_state self.old).held ≡ true }
-        requires inside { addr < (sim_state self.old).shape.ram }
-        requires room { (sim_state self.old).count < 2 ^ 32 - 1 }
-        ensures word { result ≡ answered (sim_state self.old).fault (sim_state self.old).words addr }
-        ensures fits { Fits (sim_state self.old).shape.width result }
-        ensures state { sim_state self.new ≡ record (sim_state self.old) { words = after (sim_state self.old).fault (sim_state self.old).words (Read addr); count = (sim_state self.old).count + 1 } }
-        ensures tape { sim_tape self.new ≡ recorded (sim_tape self.old) (Touch.Read addr) }
-    {
+    fn read(&mut self, addr: u32) -> u64 {
         self.count += 1;
         self.tape.add(Touch::Read { addr });
         self.load(addr)
     }
 
-    fn write(&mut self, addr: u32, word: u64)
-        requires held { (sim_state self.old).held ≡ true }
-        requires inside { addr < (sim_state self.old).shape.ram }
-        requires fits { Fits (sim_state self.old).shape.width word }
-        requires room { (sim_state self.old).count < 2 ^ 32 - 1 }
-        ensures state { sim_state self.new ≡ record (sim_state self.old) { words = after (sim_state self.old).fault (sim_state self.old).words (Write addr word); count = (sim_state self.old).count + 1 } }
-        ensures tape { sim_tape self.new ≡ recorded (sim_tape self.old) (Touch.Write addr word) }
-    {
+    fn write(&mut self, addr: u32, word: u64) {
         self.count += 1;
         self.tape.add(Touch::Write { addr, word });
         self.store(addr, word);
     }
 
-    fn flash_read(&mut self, addr: u32) -> u64
-        requires held { (sim_state self.old).held ≡ true }
-        requires inside { addr < (sim_state self.old).shape.flash }
-        requires room { (sim_state self.old).count < 2 ^ 32 - 1 }
-        ensures word { result ≡ slice_index (sim_state self.old).flash addr }
-        ensures fits { Fits (sim_state self.old).shape.width result }
-        ensures state { sim_state self.new ≡ record (sim_state self.old) { count = (sim_state self.old).count + 1 } }
-        ensures tape { sim_tape self.new ≡ recorded (sim_tape self.old) (Touch.Flash addr) }
-    {
+    fn flash_read(&mut self, addr: u32) -> u64 {
         self.count += 1;
         self.tape.add(Touch::Flash { addr });
         self.flash_word(addr)
     }
 
     fn app(&mut self, op: &AppOp) -> Answer {
+        self.operations = self.operations.wrapping_add(1);
         match *op {
             AppOp::Read { addr } => Answer::Word(self.load(addr)),
             AppOp::Write { addr, word } => {
@@ -210,12 +213,17 @@ impl Port for SimBoard {
 
     fn take_left(&mut self) -> Option<Due> {
         let request = self.later.pop()?;
+        self.urgent = least_urgent(&self.later);
         self.taken += 1;
         Some(Due {
             number: self.taken,
             at: self.count,
             request,
         })
+    }
+
+    fn urgent_due(&self) -> bool {
+        is_due(self.urgent, self.count)
     }
 
     fn made(&self) -> u32 {
@@ -235,18 +243,17 @@ impl Port for SimBoard {
 }
 
 impl Bench for SimBoard {
-    ghost use Rattle.mt_board.specs.Board.{sim_defect};
-
-    ghost defect = { λ b. sim_defect b };
-
     #[tactic(auto, unfolding(mt_port::specs::Board::powered_up))]
     fn power_up(&mut self, alloc: Global, shape: Shape, initial: u64) -> Result<(), NoMemory> {
         let stores = Stores::new(alloc, shape, initial, self.defect)?;
         self.stores = Some(stores);
         self.held = false;
+        self.since = 0;
         self.count = 0;
         self.later = ArrayVec::new();
         self.taken = 0;
+        self.urgent = None;
+        self.operations = 0;
         self.tape = Tape::new();
         Ok(())
     }
@@ -254,6 +261,7 @@ impl Bench for SimBoard {
     fn begin_event(&mut self, requests: ArrayVec<Request, 16>) {
         self.later = requests;
         self.later.as_mut_slice().reverse();
+        self.urgent = least_urgent(&self.later);
         self.taken = 0;
         self.count = 0;
     }

@@ -1,13 +1,14 @@
 //! The words of a board that has been powered up.
 
-ghost use Rattle.std.specs.Prelude.{◌≡◌, ◌<◌, ◌≤◌, length, slice_index, slice_set, All, IfOk, OnOk, OnErr, None};
+ghost use Rattle.std.specs.Prelude.{◌≡◌, ◌<◌, ◌≤◌, length, replicate, slice_index, slice_set, All, IfOk, OnOk, OnErr, None};
+ghost use Rattle.mt_port.specs.Board.{IsWithinLimits, fitting, begun_words};
 ghost use Rattle.mt_word.specs.Word.{Fits};
 ghost use Rattle.mt_fault.specs.Memory.{IsSound, after_access, injection};
 ghost use Rattle.mt_fault.proofs.SoundLemmas.{IsSound-prop};
 
 use mt_fault::{Cells, Fault, FaultRefusal};
 use mt_port::Shape;
-use mt_word::{NoMemory, Width, flip};
+use mt_word::{NoMemory, Words, flip};
 use std::alloc::Global;
 
 /// The RAM with its fault, and the flash.
@@ -15,22 +16,46 @@ use std::alloc::Global;
 pub struct Stores {
     cells: Cells,
     ram: u32,
-    flash: Vec<u64>,
+    flash: Words,
+    flash_len: u32,
     ghost sized: { length cells.words ≡ ram },
     ghost limit: { ram ≤ 65536 },
     ghost sound: { IsSound cells } by { IsSound-prop cells },
-    ghost flash_limit: { length flash.items ≤ 65536 },
-    ghost flash_fit: { All (λ w. Fits cells.width w) flash.items },
+    ghost flash_sized: { length flash.words ≡ flash_len },
+    ghost flash_limit: { flash_len ≤ 65536 },
+    ghost flash_width: { flash.width ≡ cells.width },
+    ghost flash_fit: { All (λ w. Fits cells.width w) flash.words },
+}
+
+// The RAM with a defect as its fault. A defect that does not fit counts as none.
+fn cells_with(
+    alloc: Global,
+    shape: Shape,
+    initial: u64,
+    defect: Option<Fault>,
+) -> Result<Cells, NoMemory>
+    requires sizes { IsWithinLimits shape }
+    requires fits { Fits shape.width initial }
+    ensures width { IfOk result (λ c. c.width ≡ shape.width) }
+    ensures fault { IfOk result (λ c. c.fault ≡ fitting shape defect) }
+    ensures words { IfOk result (λ c. c.words ≡ begun_words (fitting shape defect) (replicate shape.ram initial)) }
+    ensures size { IfOk result (λ c. length c.words ≡ shape.ram) }
+    ensures sound { IfOk result IsSound }
+{
+    let mut cells = Cells::new(alloc, shape.width, shape.ram, initial)?;
+    if let Some(fault) = defect {
+        let _ = cells.inject(fault);
+    }
+    Ok(cells)
 }
 
 impl Stores {
-    ghost use Rattle.std.specs.Prelude.{[], replicate, ◌-◌, ◌^◌, Some};
+    ghost use Rattle.std.specs.Prelude.{[], ◌-◌, ◌^◌, Some};
     ghost use Rattle.std.specs.declared.option.Option.{Option};
     ghost use Rattle.mt_word.specs.Word.{width_bits};
     ghost use Rattle.mt_fault.specs.History.{Read, Write};
     ghost use Rattle.mt_fault.specs.Faulty.{answer};
     ghost use Rattle.mt_fault.specs.Memory.{first_words};
-    ghost use Rattle.mt_port.specs.Board.{IsWithinLimits, fitting, begun_words};
     ghost use Rattle.mt_board.specs.Stores.{shape_of, SameFlash};
 
     /// The words that a power-up makes, with the defect as their fault where it fits.
@@ -45,20 +70,15 @@ impl Stores {
         ensures shape { IfOk result (λ s. shape_of (Some s) ≡ shape) }
         ensures fault { IfOk result (λ s. s.cells.fault ≡ fitting shape defect) }
         ensures words { IfOk result (λ s. s.cells.words ≡ begun_words (fitting shape defect) (replicate shape.ram initial)) }
-        ensures flash { IfOk result (λ s. s.flash.items ≡ replicate shape.flash (2 ^ width_bits shape.width - 1)) }
+        ensures flash { IfOk result (λ s. s.flash.words ≡ replicate shape.flash (2 ^ width_bits shape.width - 1)) }
     {
-        let mut cells = Cells::new(alloc, shape.width, shape.ram, initial)?;
-        let Ok(flash) = vec![in alloc; flip(shape.width, 0); shape.flash as usize] else {
-            return Err(NoMemory);
-        };
-        if let Some(fault) = defect {
-            // A defect that does not fit counts as none.
-            let _ = cells.inject(fault);
-        }
+        let cells = cells_with(alloc, shape, initial, defect)?;
+        let flash = Words::filled(alloc, shape.width, shape.flash, flip(shape.width, 0))?;
         Ok(Stores {
             cells,
             ram: shape.ram,
             flash,
+            flash_len: shape.flash,
         })
     }
 
@@ -69,7 +89,7 @@ impl Stores {
         Shape {
             width: self.cells.width(),
             ram: self.ram,
-            flash: self.flash.len() as u32,
+            flash: self.flash_len,
         }
     }
 
@@ -96,22 +116,23 @@ impl Stores {
 
     /// A flash word.
     pub fn flash_word(&self, addr: u32) -> u64
-        requires { addr < length self.now.flash.items }
-        ensures word { result ≡ slice_index self.now.flash.items addr }
+        requires { addr < length self.now.flash.words }
+        ensures word { result ≡ slice_index self.now.flash.words addr }
         ensures fits { Fits self.now.cells.width result }
     {
-        self.flash[addr as usize]
+        self.flash.get(addr)
     }
 
     /// Sets a flash word.
     pub fn burn(&mut self, addr: u32, word: u64)
-        requires addr { addr < length self.old.flash.items }
+        requires addr { addr < length self.old.flash.words }
         requires word { Fits self.old.cells.width word }
         ensures cells { self.new.cells ≡ self.old.cells }
         ensures ram { self.new.ram ≡ self.old.ram }
-        ensures flash { self.new.flash.items ≡ slice_set self.old.flash.items addr word }
+        ensures size { self.new.flash_len ≡ self.old.flash_len }
+        ensures flash { self.new.flash.words ≡ slice_set self.old.flash.words addr word }
     {
-        self.flash[addr as usize] = word;
+        self.flash.set(addr, word);
     }
 
     /// Puts a fault into the RAM, or says why not.

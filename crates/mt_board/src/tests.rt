@@ -130,6 +130,7 @@ fn request(offset: u32) -> Request
 {
     Request {
         offset,
+        urgent: offset == 5,
         ops: ArrayVec::new(),
     }
 }
@@ -183,6 +184,22 @@ fn hands_out(rt: &impl Abort, board: &mut SimBoard, rows: &[Row])
         read_times(board, *reads);
         assert_eq!(rt; taken(board, *take), *expected);
     }
+}
+
+// Both requests with offset 5 are urgent.
+#[test]
+fn an_urgent_request_is_seen_behind_others(rt: HostRuntime) -> Result<(), Fail> {
+    let mut board = SimBoard::new();
+    board.power_up(rt.alloc(), SMALL, 0)?;
+    board.begin_event(requests());
+    assert!(rt; !board.urgent_due());
+    read_times(&mut board, 5);
+    assert!(rt; board.urgent_due());
+    for left in [true, true, false, false] {
+        assert!(rt; board.take_left().is_some());
+        assert_eq!(rt; board.urgent_due(), left);
+    }
+    Ok(())
 }
 
 #[test]

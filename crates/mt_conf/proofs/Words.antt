@@ -4,26 +4,28 @@ use Rattle.std.specs.List.{list_all}
 use Rattle.std.proofs.lemmas.Bool.{and_parts, eqb-true}
 use Rattle.std.proofs.lemmas.Bool.Decides.{nat_tests}
 use Rattle.mt_word.specs.declared.Width.{Width}
-use Rattle.mt_word.specs.declared.Width.TheVariants.{W8, W16, W32}
+use Rattle.mt_word.specs.declared.Width.TheVariants.{W8, W16, W32, W64}
 use Rattle.mt_word.specs.Word.{width_bits, Fits}
 use Rattle.mt_conf.specs.Rules.{is_hex, digits_of, is_word}
 use Rattle.mt_conf.specs.Outcome.{hex_digit, hex, word_of}
 
-digits_few : (w : Width) → digits_of w ≤ 8
+digits_few : (w : Width) → digits_of w ≤ 16
 digits_few W8 = omega arith
 digits_few W16 = omega arith
 digits_few W32 = omega arith
+digits_few W64 = omega arith
 
 digits_bits : (w : Width) → 16 ^ digits_of w ≡ 2 ^ width_bits w
 digits_bits W8 = refl
 digits_bits W16 = refl
 digits_bits W32 = refl
+digits_bits W64 = refl
 
 pub word_parts : (w : Width) (text : List ℕ) → is_word w text ≡ true → (length text ≡ digits_of w) × (list_all is_hex text ≡ true)
 unfolding is_word
 word_parts w text h = let parts = and_parts (length text == digits_of w) (list_all is_hex text) h in (eqb-true _ _ parts.0, parts.1)
 
-pub word_few : (w : Width) (text : List ℕ) → is_word w text ≡ true → length text ≤ 8
+pub word_few : (w : Width) (text : List ℕ) → is_word w text ≡ true → length text ≤ 16
 word_few w text h = let len = (word_parts w text h).0 in let few = digits_few w in omega (arith, len, few)
 
 digit_small : (b : ℕ) → is_hex b ≡ true → hex_digit b < 16
@@ -49,6 +51,7 @@ word_fits_by w text true h =
 word_fits_by W8 text false h = lit< tt
 word_fits_by W16 text false h = lit< tt
 word_fits_by W32 text false h = lit< tt
+word_fits_by W64 text false h = lit< tt
 
 pub word_fits : (w : Width) (text : List ℕ) → Fits w (word_of w text)
 unfolding word_of

@@ -34,10 +34,10 @@ fn hex_digit(byte: u8) -> u64
     }
 }
 
-/// The value of at most eight hexadecimal digits.
+/// The value of at most sixteen hexadecimal digits.
 fn hex(bytes: &[u8]) -> u64
     requires digits { list_all is_hex bytes.now ≡ true }
-    requires few { length bytes.now ≤ 8 }
+    requires few { length bytes.now ≤ 16 }
     ensures { result ≡ hex 0 bytes.now }
 {
     let mut word = 0u64;

@@ -75,7 +75,7 @@ fn are_hex(bytes: &[u8]) -> bool
 
 fn digits_of(width: Width) -> usize
     ensures value { result ≡ digits_of width }
-    ensures few { result ≤ 8 }
+    ensures few { result ≤ 16 }
 {
     bits(width) as usize / 4
 }

@@ -9,7 +9,7 @@ ghost use Rattle.mt_fault.specs.Memory.{Memory, IsSound, after_access, first_wor
 use crate::access::{read_word, settle, write_word};
 use crate::fault::{Fault, FaultRefusal};
 use crate::placement::{is_in_range, is_same_word};
-use mt_word::{NoMemory, Width};
+use mt_word::{NoMemory, Width, Words};
 use std::alloc::Global;
 use std::marker::Model;
 
@@ -18,8 +18,7 @@ use std::marker::Model;
 /// Each access takes the time of one or two words, whatever the size. No call tells the fault.
 #[derive(Drop)]
 pub struct Cells {
-    width: Width,
-    words: Vec<u64>,
+    words: Words,
     fault: Option<Fault>,
 }
 
@@ -28,9 +27,9 @@ impl Model for Cells {
 
     ghost Value = { Memory };
 
-    ghost view = { λ c. record { width = c.width; fault = c.fault; words = c.words.items } };
+    ghost view = { λ c. record { width = c.words.width; fault = c.fault; words = c.words.words } };
 
-    ghost invariant = { λ c. IsSound (record { width = c.width; fault = c.fault; words = c.words.items }) };
+    ghost invariant = { λ c. IsSound (record { width = c.words.width; fault = c.fault; words = c.words.words }) };
 }
 
 impl Cells {
@@ -42,14 +41,8 @@ impl Cells {
         ensures words { IfOk result (λ m. m ≡ record { width = width; fault = None; words = replicate size initial }) }
         ensures sound { IfOk result IsSound }
     {
-        let Ok(words) = vec![in alloc; initial; size as usize] else {
-            return Err(NoMemory);
-        };
-        Ok(Cells {
-            width,
-            words,
-            fault: None,
-        })
+        let words = Words::filled(alloc, width, size, initial)?;
+        Ok(Cells { words, fault: None })
     }
 
     /// The width, which no call changes. What is known of every memory stands here as a clause, for callers' proofs.
@@ -57,7 +50,7 @@ impl Cells {
         ensures width { result ≡ self.now.width }
         ensures sound { IsSound self.now }
     {
-        self.width
+        self.words.width()
     }
 
     /// Reads a word, under the fault that is there. It leaves every stored word.
@@ -69,7 +62,7 @@ impl Cells {
         ensures fits { Fits self.old.width result }
         ensures sound { IsSound self.new }
     {
-        read_word(&self.words, self.width, self.fault, addr)
+        read_word(&self.words, self.fault, addr)
     }
 
     /// Writes a word, under the fault that is there.
@@ -81,7 +74,7 @@ impl Cells {
         ensures size { length self.new.words ≡ length self.old.words }
         ensures sound { IsSound self.new }
     {
-        write_word(&mut self.words, self.width, self.fault, addr, word);
+        write_word(&mut self.words, self.fault, addr, word);
     }
 
     /// Puts a fault there, where it is in range, its two addresses differ and none is there; the first of these that
@@ -97,7 +90,7 @@ impl Cells {
         ensures size { length self.new.words ≡ length self.old.words }
         ensures sound { IsSound self.new }
     {
-        if !is_in_range(self.width, self.words.len(), fault) {
+        if !is_in_range(self.words.width(), self.words.len(), fault) {
             return Err(FaultRefusal::OutOfRange);
         }
         if is_same_word(fault) {
@@ -106,7 +99,7 @@ impl Cells {
         if self.fault.is_some() {
             return Err(FaultRefusal::Present);
         }
-        settle(&mut self.words, self.width, fault);
+        settle(&mut self.words, fault);
         self.fault = Some(fault);
         Ok(())
     }

@@ -42,6 +42,7 @@ fn run_sequence<P: Port>(
     ensures address { result ≡ comparison (P.state port.old).flash (piece_at atomic (flash_spans blocks.now) at).slice.first (copy_of blocks.now at) (piece_at atomic (flash_spans blocks.now) at).slice.n }
     ensures state { P.state port.new ≡ record (P.state port.old) {
       count = (P.state port.old).count + compare_hold (piece_at atomic (flash_spans blocks.now) at).slice.n;
+      since = (P.state port.old).count;
     } }
     ensures tape { Logs (P.tape port.old) (P.tape port.new)
         (compare_touches (piece_at atomic (flash_spans blocks.now) at).slice.first (copy_of blocks.now at) (piece_at atomic (flash_spans blocks.now) at).slice.n) }

@@ -3,7 +3,7 @@ use Rattle.std.specs.Prelude.{ℕ, ◌+◌, ◌-◌, ◌<◌, ◌≤◌, ◌≡�
 use Rattle.mt_port.specs.declared.memory.MemSource.{MemSource}
 use Rattle.mt_port.specs.declared.memory.PlainSource.{PlainSource}
 use Rattle.mt_port.specs.declared.memory.MemSink.{MemSink}
-use Rattle.mt_port.specs.Causes.{RoseByOne}
+use Rattle.mt_port.specs.Causes.{Rose}
 
 -- the bytes that are left
 abbrev pub plain_left : PlainSource → List ℕ
@@ -55,7 +55,7 @@ without place fails = filter (λ p. not (p == place)) fails
 pub record ReadsUpTo {E : Type 0} (old new : MemSource) (room : ℕ) (result : Result ℕ E) : Type 0 where
   pub failed : IsErr result ↔ Contains (source_fails old) (source_place old)
   pub once : OnErr result (source_fails new ≡ without (source_place old) (source_fails old))
-  pub counted : OnErr result (RoseByOne (source_faults old) (source_faults new))
+  pub counted : OnErr result (Rose (source_faults old) (source_faults new))
   pub stays : OnErr result (source_place new ≡ source_place old)
   pub given : IfOk result (λ n. StopsBefore (source_fails old) (source_place old) (min (min room (length (source_left old))) (source_piece old)) n)
   pub place : IfOk result (λ n. source_place new ≡ source_place old + n)
@@ -66,7 +66,7 @@ pub record ReadsUpTo {E : Type 0} (old new : MemSource) (room : ℕ) (result : R
 pub record WritesUpTo {E : Type 0} (old new : MemSink) (piece : List ℕ) (result : Result ℕ E) : Type 0 where
   pub failed : IsErr result ↔ (Contains (sink_fails old) (length (sink_bytes old)) ⊎ (length (sink_bytes old) ≡ sink_room old))
   pub once : OnErr result (sink_fails new ≡ without (length (sink_bytes old)) (sink_fails old))
-  pub counted : OnErr result (RoseByOne (sink_faults old) (sink_faults new))
+  pub counted : OnErr result (Rose (sink_faults old) (sink_faults new))
   pub taken : IfOk result (λ n. StopsBefore (sink_fails old) (length (sink_bytes old)) (min (length piece) (sink_room old - length (sink_bytes old))) n)
   pub fails : OnOk result (sink_fails new ≡ sink_fails old)
   pub room : sink_room new ≡ sink_room old

@@ -4,7 +4,7 @@ ghost use Rattle.std.specs.Prelude.{◌≡◌, ◌<◌, ◌≤◌, ◌+◌, ◌-
 ghost use Rattle.std.specs.Io.{ReadsAtMost};
 ghost use Rattle.std.specs.Io.KnownBytes.{ReadConsumes, WriteAppends};
 ghost use Rattle.mt_port.specs.Causes.{HasCause};
-ghost use Rattle.mt_port.specs.Streams.{TakesSome};
+ghost use Rattle.mt_port.specs.Streams.{TakesSome, KeepsRest};
 
 use crate::places::{fail_at, is_place, room_before};
 use crate::stream::{Failed, Sink, Source};
@@ -15,7 +15,8 @@ use std::alloc::Global;
 fn give(bytes: &[u8], given: usize, buf: &mut [u8], count: usize)
     requires left { given + count ≤ length bytes.now }
     requires room { count ≤ length buf.old }
-    ensures { drop given bytes.now ≡ take count buf.new ++ drop (given + count) bytes.now }
+    ensures given { drop given bytes.now ≡ take count buf.new ++ drop (given + count) bytes.now }
+    ensures rest { drop count buf.new ≡ drop count buf.old }
 {
     buf[..count].copy_from_slice(&bytes[given..given + count]);
 }
@@ -41,15 +42,19 @@ impl PlainSource {
 
 impl Source for PlainSource {
     ghost use Rattle.mt_port.specs.Memory.{plain_left};
+    ghost use Rattle.std.proofs.Common.{lit<};
 
     ghost left = { λ s. Some (drop s.given s.bytes.items) };
 
     ghost faults = { λ _. 0 };
 
+    ghost counted = { λ _. lit< tt };
+
     fn read(&mut self, buf: &mut [u8]) -> Result<usize, Failed>
         ensures bound { ReadsAtMost result buf.new }
         ensures bytes { ReadConsumes (Some (plain_left self.old)) (Some (plain_left self.new)) result buf.new }
         ensures cause { HasCause 0 0 result }
+        ensures rest { KeepsRest result buf.old buf.new }
         ensures most { IsOkAnd result (λ n. n ≡ min (length buf.old) (length (plain_left self.old))) }
     {
         let count = buf.len().min(self.bytes.len() - self.given);
@@ -70,6 +75,7 @@ pub struct MemSource {
     faults: u64,
     ghost within: { given ≤ vec_len bytes },
     ghost moves: { 0 < piece },
+    ghost counted: { faults < 2 ^ 64 },
 }
 
 impl MemSource {
@@ -101,10 +107,13 @@ impl Source for MemSource {
 
     ghost faults = { λ s. s.faults };
 
+    ghost counted = { λ s. s.counted };
+
     fn read(&mut self, buf: &mut [u8]) -> Result<usize, Failed>
         ensures bound { ReadsAtMost result buf.new }
         ensures bytes { ReadConsumes (Some (source_left self.old)) (Some (source_left self.new)) result buf.new }
         ensures cause { HasCause (source_faults self.old) (source_faults self.new) result }
+        ensures rest { KeepsRest result buf.old buf.new }
         ensures places { ReadsUpTo self.old self.new (length buf.old) result }
     {
         let place = self.given as u64;
@@ -131,6 +140,7 @@ pub struct MemSink {
     faults: u64,
     ghost within: { vec_len bytes ≤ room },
     ghost reserved: { room ≤ vec_capacity bytes },
+    ghost counted: { faults < 2 ^ 64 },
 }
 
 impl MemSink {
@@ -169,6 +179,8 @@ impl Sink for MemSink {
 
     ghost faults = { λ s. s.faults };
 
+    ghost counted = { λ s. s.counted };
+
     fn write(&mut self, piece: &[u8]) -> Result<usize, Failed>
         ensures bound { TakesSome result piece.now }
         ensures bytes { WriteAppends (Some (sink_bytes self.old)) (Some (sink_bytes self.new)) result piece.now }
@@ -203,9 +215,13 @@ impl NullSink {
 }
 
 impl Sink for NullSink {
+    ghost use Rattle.std.proofs.Common.{lit<};
+
     ghost held = { λ _. None };
 
     ghost faults = { λ _. 0 };
+
+    ghost counted = { λ _. lit< tt };
 
     fn write(&mut self, piece: &[u8]) -> Result<usize, Failed>
         ensures bound { TakesSome result piece.now }

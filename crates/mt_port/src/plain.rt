@@ -1,26 +1,25 @@
 //! A sound board for tests, with a tape of its accesses.
 
-ghost use Rattle.std.specs.Prelude.{◌≡◌, ◌<◌, ◌≤◌, ◌+◌, ◌-◌, ◌^◌, ℕ, List, Some, None, All, length, replicate, IfOk, false, true, [], ◌∷◌, drop};
+ghost use Rattle.std.specs.Prelude.{◌≡◌, ◌<◌, ◌≤◌, Some, None, All, length, replicate, IfOk, []};
 ghost use Rattle.std.specs.Option.{option_copied};
-ghost use Rattle.mt_word.specs.Word.{Fits, width_bits};
+ghost use Rattle.mt_word.specs.Word.{Fits};
 
 use crate::board::{Port, Shape, Touch};
-use crate::request::{Answer, AppOp, Due, Request};
+use crate::request::{Answer, AppOp, Due};
 use crate::tape::Tape;
-use arrayvec::ArrayVec;
 use mt_word::{NoMemory, flip, wrapping_sum};
 use std::alloc::Global;
 
-/// A board whose memory has no fault.
+/// A board whose memory has no fault, and which has no requests.
 #[derive(Drop)]
 pub struct PlainBoard {
     shape: Shape,
     words: Vec<u64>,
     flash: Vec<u64>,
     held: bool,
+    since: u32,
     count: u32,
-    left: ArrayVec<Request, 16>,
-    taken: u8,
+    operations: u32,
     tape: Tape,
     ghost limit: { shape.ram ≤ 65536 },
     ghost flash_limit: { shape.flash ≤ 65536 },
@@ -28,7 +27,6 @@ pub struct PlainBoard {
     ghost fit: { All (λ w. Fits shape.width w) words.items },
     ghost flash_sized: { length flash.items ≡ shape.flash },
     ghost flash_fit: { All (λ w. Fits shape.width w) flash.items },
-    ghost few: { taken + length left.items ≤ 16 },
 }
 
 fn words_of(alloc: Global, count: u32, word: u64) -> Result<Vec<u64>, NoMemory>
@@ -59,9 +57,9 @@ impl PlainBoard {
             words,
             flash,
             held: false,
+            since: 0,
             count: 0,
-            left: ArrayVec::new(),
-            taken: 0,
+            operations: 0,
             tape: Tape::new(),
         })
     }
@@ -76,70 +74,47 @@ impl PlainBoard {
 
 #[tactic(auto, using(mt_fault::proofs::PlainMemory::plain_write, mt_fault::proofs::PlainMemory::plain_read))]
 impl Port for PlainBoard {
-    ghost use Rattle.std.specs.Prelude.{None, slice_index};
+    ghost use Rattle.std.proofs.Common.{lit≤};
     ghost use Rattle.mt_fault.proofs.PlainMemory.{plain_still};
-    ghost use Rattle.mt_fault.specs.History.{Read, Write};
-    ghost use Rattle.mt_port.specs.declared.board.Touch.{Touch};
-    ghost use Rattle.mt_port.specs.Board.{after, answered};
     ghost use Rattle.mt_port.specs.PlainBoard.{plain_state, plain_tape};
-    ghost use Rattle.mt_port.specs.Tape.{recorded};
 
-    ghost state = { λ b. record { shape = b.shape; fault = None; words = b.words.items; flash = b.flash.items; held = b.held; count = b.count; left = b.left.items; taken = b.taken } };
+    ghost state = { λ b. plain_state b };
 
-    ghost tape = { λ b. b.tape };
+    ghost tape = { λ b. plain_tape b };
 
-    ghost sound = { λ b. record { sized = b.sized; limit = b.limit; flash_limit = b.flash_limit; memory = record { fits = λ a inside. b.fit a 0 inside; placed = tt; settled = plain_still b.words.items }; flash_sized = b.flash_sized; flash_fit = b.flash_fit; few = b.few } };
+    ghost keeps = { 256 };
+
+    ghost sound = { λ b. record { sized = b.sized; limit = b.limit; flash_limit = b.flash_limit; memory = record { fits = λ a inside. b.fit a 0 inside; placed = tt; settled = plain_still b.words.items }; flash_sized = b.flash_sized; flash_fit = b.flash_fit; few = lit≤ tt } };
 
     fn hold(&mut self) {
         self.held = true;
+        self.since = self.count;
     }
 
     fn release(&mut self) {
         self.held = false;
     }
 
-    fn read(&mut self, addr: u32) -> u64
-        requires held { (plain_state self.old).held ≡ true }
-        requires inside { addr < (plain_state self.old).shape.ram }
-        requires room { (plain_state self.old).count < 2 ^ 32 - 1 }
-        ensures word { result ≡ answered (plain_state self.old).fault (plain_state self.old).words addr }
-        ensures fits { Fits (plain_state self.old).shape.width result }
-        ensures state { plain_state self.new ≡ record (plain_state self.old) { words = after (plain_state self.old).fault (plain_state self.old).words (Read addr); count = (plain_state self.old).count + 1 } }
-        ensures tape { plain_tape self.new ≡ recorded (plain_tape self.old) (Touch.Read addr) }
-    {
+    fn read(&mut self, addr: u32) -> u64 {
         self.count += 1;
         self.tape.add(Touch::Read { addr });
         self.words[addr as usize]
     }
 
-    fn write(&mut self, addr: u32, word: u64)
-        requires held { (plain_state self.old).held ≡ true }
-        requires inside { addr < (plain_state self.old).shape.ram }
-        requires fits { Fits (plain_state self.old).shape.width word }
-        requires room { (plain_state self.old).count < 2 ^ 32 - 1 }
-        ensures state { plain_state self.new ≡ record (plain_state self.old) { words = after (plain_state self.old).fault (plain_state self.old).words (Write addr word); count = (plain_state self.old).count + 1 } }
-        ensures tape { plain_tape self.new ≡ recorded (plain_tape self.old) (Touch.Write addr word) }
-    {
+    fn write(&mut self, addr: u32, word: u64) {
         self.count += 1;
         self.tape.add(Touch::Write { addr, word });
         self.words[addr as usize] = word;
     }
 
-    fn flash_read(&mut self, addr: u32) -> u64
-        requires held { (plain_state self.old).held ≡ true }
-        requires inside { addr < (plain_state self.old).shape.flash }
-        requires room { (plain_state self.old).count < 2 ^ 32 - 1 }
-        ensures word { result ≡ slice_index (plain_state self.old).flash addr }
-        ensures fits { Fits (plain_state self.old).shape.width result }
-        ensures state { plain_state self.new ≡ record (plain_state self.old) { count = (plain_state self.old).count + 1 } }
-        ensures tape { plain_tape self.new ≡ recorded (plain_tape self.old) (Touch.Flash addr) }
-    {
+    fn flash_read(&mut self, addr: u32) -> u64 {
         self.count += 1;
         self.tape.add(Touch::Flash { addr });
         self.flash[addr as usize]
     }
 
     fn app(&mut self, op: &AppOp) -> Answer {
+        self.operations = self.operations.wrapping_add(1);
         match *op {
             AppOp::Read { addr } => Answer::Word(self.words[addr as usize]),
             AppOp::Write { addr, word } => {
@@ -161,23 +136,15 @@ impl Port for PlainBoard {
     }
 
     fn take_due(&mut self) -> Option<Due> {
-        if self.left.is_empty() || self.left[0].offset > self.count {
-            return None;
-        }
-        self.take_left()
+        None
     }
 
     fn take_left(&mut self) -> Option<Due> {
-        if self.left.is_empty() {
-            return None;
-        }
-        let request = self.left.remove(0);
-        self.taken += 1;
-        Some(Due {
-            number: self.taken,
-            at: self.count,
-            request,
-        })
+        None
+    }
+
+    fn urgent_due(&self) -> bool {
+        false
     }
 
     fn made(&self) -> u32 {

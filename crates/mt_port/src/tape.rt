@@ -40,7 +40,7 @@ impl Tape {
 
     /// Appends an access. A list of 256 becomes none, and none stays none.
     pub fn add(&mut self, touch: Touch)
-        ensures { self.new ≡ recorded self.old touch }
+        ensures { self.new ≡ recorded 256 self.old touch }
     {
         if !self.told {
             return;

@@ -9,34 +9,46 @@ use mt_word::Width;
 use std::io;
 use std::test::Fail;
 
-// A reader and a writer that fails at its first call. Then a read gives `x`, and a write takes two bytes at most.
+// A reader and a writer that fails at one of its calls, counted from 1. Another read gives `x`, twice in all, and then
+// ends; another write takes two bytes at most.
 #[derive(Drop)]
-struct FailsFirst {
-    failed: bool,
+struct FailsAt {
+    call: u32,
+    calls: u32,
+    left: u32,
 }
 
-impl FailsFirst {
-    fn turn(&mut self) -> io::Result<()> {
-        if self.failed {
-            return Ok(());
+impl FailsAt {
+    fn new(call: u32) -> FailsAt {
+        FailsAt {
+            call,
+            calls: 0,
+            left: 2,
         }
-        self.failed = true;
-        Err(io::Error::from(io::ErrorKind::Other))
+    }
+
+    fn turn(&mut self) -> io::Result<()> {
+        self.calls = self.calls.saturating_add(1);
+        if self.calls == self.call {
+            return Err(io::Error::from(io::ErrorKind::Other));
+        }
+        Ok(())
     }
 }
 
-impl io::Read for FailsFirst {
+impl io::Read for FailsAt {
     fn read(&mut self, buf: &mut [u8]) -> io::Result<usize> {
         self.turn()?;
-        if buf.is_empty() {
+        if buf.is_empty() || self.left == 0 {
             return Ok(0);
         }
+        self.left -= 1;
         buf[0] = b'x';
         Ok(1)
     }
 }
 
-impl io::Write for FailsFirst {
+impl io::Write for FailsAt {
     fn write(&mut self, buf: &[u8]) -> io::Result<usize> {
         self.turn()?;
         Ok(buf.len().min(2))
@@ -62,13 +74,32 @@ impl io::Write for Closed {
 }
 
 #[test]
-fn a_failure_of_the_reader_is_not_hidden(rt: HostRuntime) {
-    let mut source = StdIn::new(FailsFirst { failed: false });
-    let mut buf = [b'-'; 3];
-    assert_eq!(rt; source.read(&mut buf), Err(Failed));
-    assert_eq!(rt; buf, *b"---");
+fn each_failure_of_a_reader_is_told_once(rt: HostRuntime) {
+    for call in 1..4 {
+        let mut source = StdIn::new(FailsAt::new(call));
+        let mut given = 0;
+        for turn in 1..6 {
+            let mut buf = [b'-'; 2];
+            if turn == call {
+                assert_eq!(rt; source.read(&mut buf), Err(Failed));
+                assert_eq!(rt; buf, *b"--");
+            } else if given < 2 {
+                assert_eq!(rt; source.read(&mut buf), Ok(1));
+                assert_eq!(rt; buf, *b"x-");
+                given += 1;
+            } else {
+                assert_eq!(rt; source.read(&mut buf), Ok(0));
+            }
+        }
+    }
+}
+
+#[test]
+fn a_read_into_no_room_gives_nothing(rt: HostRuntime) {
+    let mut source = StdIn::new(FailsAt::new(0));
+    assert_eq!(rt; source.read(&mut []), Ok(0));
+    let mut buf = [b'-'; 1];
     assert_eq!(rt; source.read(&mut buf), Ok(1));
-    assert_eq!(rt; buf, *b"x--");
 }
 
 #[test]
@@ -83,11 +114,25 @@ fn a_reader_gives_its_bytes(rt: HostRuntime) {
 }
 
 #[test]
-fn a_failure_of_the_writer_is_not_hidden(rt: HostRuntime) {
-    let mut sink = StdOut::new(FailsFirst { failed: false });
-    assert_eq!(rt; sink.write(b"abc"), Err(Failed));
-    assert_eq!(rt; sink.write(b"abc"), Ok(2));
-    assert_eq!(rt; put(&mut sink, b"abc"), Ok(()));
+fn each_failure_of_a_writer_is_told_once(rt: HostRuntime) {
+    for call in 1..4 {
+        let mut sink = StdOut::new(FailsAt::new(call));
+        for turn in 1..6 {
+            let want = if turn == call { Err(Failed) } else { Ok(2) };
+            assert_eq!(rt; sink.write(b"abc"), want);
+        }
+        assert_eq!(rt; sink.write(b""), Ok(0));
+    }
+}
+
+#[test]
+fn the_first_failure_of_a_writer_ends_a_piece(rt: HostRuntime) {
+    for call in 1..4 {
+        let mut sink = StdOut::new(FailsAt::new(call));
+        assert_eq!(rt; put(&mut sink, b"abcdef"), Err(Failed));
+        assert_eq!(rt; put(&mut sink, b"abcdef"), Ok(()));
+        assert_eq!(rt; put(&mut sink, b""), Ok(()));
+    }
 }
 
 #[test]

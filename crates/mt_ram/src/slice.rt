@@ -52,6 +52,7 @@ fn run_sequence<P: Port>(port: &mut P, job: &mut Job, set: &ParamSet, at: Positi
     ensures state { P.state port.new ≡ record (P.state port.old) {
       words = sequence_words (P.state port.old) (job_in set.now at.block) (piece_at set.now.atomic (spans_of set.now.blocks) at).slice;
       count = (P.state port.old).count + sequence_hold (job_in set.now at.block) (piece_at set.now.atomic (spans_of set.now.blocks) at).slice.n;
+      since = (P.state port.old).count;
     } }
     ensures tape { Logs (P.tape port.old) (P.tape port.new)
         (sequence_touches (P.state port.old) (job_in set.now at.block) (piece_at set.now.atomic (spans_of set.now.blocks) at).slice) }

@@ -4,7 +4,7 @@ use Rattle.mt_port.specs.declared.board.Shape.{Shape}
 use Rattle.mt_port.specs.declared.board.Touch.{Touch}
 use Rattle.mt_port.specs.declared.request.Request.{Request}
 use Rattle.mt_port.specs.declared.request.AppOp.{AppOp}
-use Rattle.mt_port.specs.Board.{Board, op_words, op_answer, injected, flipped, powered_up}
+use Rattle.mt_port.specs.Board.{Board, after_op, op_answer, injected, flipped, powered_up}
 use Rattle.mt_fault.specs.declared.fault.Fault.{Fault}
 use Rattle.mt_fault.specs.declared.fault.Spot.{Spot}
 use Rattle.mt_seq.specs.declared.sequence.Verdict.{Verdict}
@@ -70,7 +70,7 @@ abbrev pub with_fls : Modules → Board → FlsTst → Machine
 with_fls modules board fls = record { board = board; modules = record { ram = modules.ram; fls = fls } }
 
 abbrev pub operated : Machine → AppOp → Step
-operated m op = replied (on_board m (record (m.board) { words = op_words m.board op })) (given (op_answer m.board op))
+operated m op = replied (on_board m (after_op m.board op)) (given (op_answer m.board op))
 
 -- an injection while a fault is there changes nothing
 abbrev pub injecting : Machine → Fault → Step

@@ -98,7 +98,7 @@ fn find<S: Source>(
 #[tactic(auto, unfolding(mt_port::specs::Board::powered_up))]
 fn power_up<B: Bench>(alloc: Global, config: Config, board: &mut B) -> Result<Modules, NoMemory>
     requires { IsAcceptedConfig config }
-    ensures ok { IfOk result (λ modules. record { board = B.state board.new; modules = modules } ≡ started config (B.defect board.old)) }
+    ensures ok { IfOk result (λ modules. record { board = B.state board.new; modules = modules } ≡ started config (B.state board.old).defect) }
     ensures ready { IfOk result (λ modules. IsReady config.shape (record { board = B.state board.new; modules = modules })) }
     ensures tape { OnOk result (B.tape board.new ≡ Some []) }
     ensures err { OnErr result ((B.state board.new ≡ B.state board.old) × (B.tape board.new ≡ B.tape board.old)) }
@@ -152,7 +152,7 @@ fn replay_empty<K: Sink, B: Bench>(
     board: &mut B,
 ) -> Status
     requires { IsAcceptedConfig config }
-    ensures gives { (left : Option (List ℕ)) (left' : Option (List ℕ)) → EmptyGives result form config (B.defect board.old) (B.state board.old) (B.state board.new)
+    ensures gives { (left : Option (List ℕ)) (left' : Option (List ℕ)) → EmptyGives result form config (B.state board.old).defect (B.state board.old) (B.state board.new)
         (record { left = left; left' = left'; held = K.held sink.old; held' = K.held sink.new; tape = B.tape board.old; tape' = B.tape board.new }) (K.faults sink.old) (K.faults sink.new) }
     ensures free { StaysFree (B.state board.old) (B.state board.new) }
 {
@@ -205,7 +205,7 @@ fn play_script<S: Source, K: Sink, B: Bench>(
     board: &mut B,
 ) -> Status
     requires { IsAcceptedConfig config }
-    ensures gives { (a : Option (List ℕ)) → WhereTold a (prepend_known input.old (S.left source.old)) (Begins config) → JobGives result (outcomes Form.Run (B.defect board.old)) (B.state board.old) (B.state board.new)
+    ensures gives { (a : Option (List ℕ)) → WhereTold a (prepend_known input.old (S.left source.old)) (Begins config) → JobGives result (outcomes Form.Run (B.state board.old).defect) (B.state board.old) (B.state board.new)
         (record { left = a; left' = S.left source.new; held = K.held sink.old; held' = K.held sink.new; tape = B.tape board.old; tape' = B.tape board.new }) }
     ensures cause { StatusCaused result (S.faults source.old) (S.faults source.new) (K.faults sink.old) (K.faults sink.new) }
     ensures free { StaysFree (B.state board.old) (B.state board.new) }
@@ -280,7 +280,7 @@ fn replay_script<S: Source, K: Sink, B: Bench>(
     board: &mut B,
 ) -> Status
     requires { IsAcceptedConfig config }
-    ensures gives { (a : Option (List ℕ)) → WhereTold a (prepend_known input.old (S.left source.old)) (Begins config) → JobGives result (outcomes form (B.defect board.old)) (B.state board.old) (B.state board.new)
+    ensures gives { (a : Option (List ℕ)) → WhereTold a (prepend_known input.old (S.left source.old)) (Begins config) → JobGives result (outcomes form (B.state board.old).defect) (B.state board.old) (B.state board.new)
         (record { left = a; left' = S.left source.new; held = K.held sink.old; held' = K.held sink.new; tape = B.tape board.old; tape' = B.tape board.new }) }
     ensures cause { StatusCaused result (S.faults source.old) (S.faults source.new) (K.faults sink.old) (K.faults sink.new) }
     ensures free { StaysFree (B.state board.old) (B.state board.new) }
@@ -303,7 +303,7 @@ fn replay_found<S: Source, K: Sink, B: Bench>(
     board: &mut B,
 ) -> Status
     requires { IsAcceptedFound found }
-    ensures gives { (a : Option (List ℕ)) → WhereTold a (prepend_known input.old (S.left source.old)) (FoundGives found) → JobGives result (outcomes form (B.defect board.old)) (B.state board.old) (B.state board.new)
+    ensures gives { (a : Option (List ℕ)) → WhereTold a (prepend_known input.old (S.left source.old)) (FoundGives found) → JobGives result (outcomes form (B.state board.old).defect) (B.state board.old) (B.state board.new)
         (record { left = a; left' = S.left source.new; held = K.held sink.old; held' = K.held sink.new; tape = B.tape board.old; tape' = B.tape board.new }) }
     ensures cause { StatusCaused result (S.faults source.old) (S.faults source.new) (K.faults sink.old) (K.faults sink.new) }
     ensures free { StaysFree (B.state board.old) (B.state board.new) }
@@ -326,7 +326,7 @@ fn replay_job<S: Source, K: Sink, B: Bench>(
     sink: &mut K,
     board: &mut B,
 ) -> Status
-    ensures gives { JobGives result (outcomes form (B.defect board.old)) (B.state board.old) (B.state board.new)
+    ensures gives { JobGives result (outcomes form (B.state board.old).defect) (B.state board.old) (B.state board.new)
         (record { left = S.left source.old; left' = S.left source.new; held = K.held sink.old; held' = K.held sink.new; tape = B.tape board.old; tape' = B.tape board.new }) }
     ensures cause { StatusCaused result (S.faults source.old) (S.faults source.new) (K.faults sink.old) (K.faults sink.new) }
     ensures free { StaysFree (B.state board.old) (B.state board.new) }
@@ -377,14 +377,14 @@ pub fn replay<S: Source, K: Sink, B: Bench>(
     sink: &mut K,
     board: &mut B,
 ) -> Status
-    ensures gives { Replays (form_of words.now) result (B.defect board.old) (B.state board.old) (B.state board.new)
+    ensures gives { Replays (form_of words.now) result (B.state board.old).defect (B.state board.old) (B.state board.new)
         (record { left = S.left source.old; left' = S.left source.new; held = K.held sink.old; held' = K.held sink.new; tape = B.tape board.old; tape' = B.tape board.new }) (K.faults sink.old) (K.faults sink.new) }
     ensures cause { StatusCaused result (S.faults source.old) (S.faults source.new) (K.faults sink.old) (K.faults sink.new) }
     ensures free { StaysFree (B.state board.old) (B.state board.new) }
     // Where neither stream failed, an accepted job ends in `Done`, or no memory was found.
-    ensures complete { Completes (form_of words.now) result (B.defect board.old) (S.left source.old) (S.faults source.old) (S.faults source.new) (K.faults sink.old) (K.faults sink.new) }
+    ensures complete { Completes (form_of words.now) result (B.state board.old).defect (S.left source.old) (S.faults source.old) (S.faults source.new) (K.faults sink.old) (K.faults sink.new) }
     // Whatever bytes a job has, each request of its replay waits 0, or less than the length of the sequence that it meets.
-    ensures latency { RequestsWaitShortly (B.defect board.old) }
+    ensures latency { RequestsWaitShortly (B.state board.old).defect }
 {
     match form_of(words) {
         Some(form) => replay_job(alloc, form, source, sink, board),

@@ -12,7 +12,8 @@ use Rattle.std.proofs.lemmas.List.Elements.{All-append, All-cons, All-nil}
 use Rattle.mt_fault.specs.Faulty.{words_after}
 use Rattle.mt_fault.proofs.Spans.{words_cut, length-words_after}
 use Rattle.mt_port.specs.declared.board.Touch.{Touch}
-use Rattle.mt_port.proofs.StreamLemmas.{Logs-nil, Logs-append}
+use Rattle.mt_port.proofs.StreamLemmas.{Logs-nil, Logs-append, logs_one}
+use Rattle.mt_port.specs.Tape.{recorded}
 use Rattle.mt_port.specs.Board.{Board, IsSound, Logs}
 use Rattle.mt_fault.specs.Items.{Item, place, access_of, history, agrees, passes}
 use Rattle.mt_seq.specs.Tape.{touch_of}
@@ -55,6 +56,10 @@ Makes-append {xs} {ys} {a} {b} {c} {ta} {tb} {tc} {p} {q} sound first second =
           ∙ sym (passes-append a.fault a.words [] xs ys);
       tape = subst (Logs ta tc) (sym (map-append touch_of xs ys)) (Logs-append ta tb tc _ _ first.tape second.tape);
     }
+
+-- a board records one access
+pub touched : (ta tb : Option (List Touch)) (most : ℕ) (touch : Touch) → tb ≡ recorded most ta touch → Logs ta tb (touch ∷ [])
+touched ta tb most touch e = subst (λ t. Logs ta t (touch ∷ [])) (sym e) (logs_one most ta touch)
 
 -- one access
 pub Makes-one : (item : Item) {a b : Board} {ta tb : Option (List Touch)} {good : Bool} → IsSound a

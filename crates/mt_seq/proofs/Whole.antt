@@ -27,29 +27,29 @@ Makes-sequence job slice steps {a} {b} {c} {d} {ta} {tb} {tc} {td} {pass} {s} {t
     Makes-same refl (and_true pass)
     (Makes-append sound (Makes-append sound first (Makes-same (same_testing _ _ job slice _ _ steps width e) refl second)) (Makes-same (ap (ending job slice) f) refl third))
 
--- whether interrupts are held changes nothing
-held_sequence : (a : Board) (h : Bool) (job : Job) (slice : Slice) (steps : List Step) → accesses_of (record a { held = h }) job slice steps ≡ accesses_of a job slice steps
+-- whether interrupts are held, and since when, changes nothing
+held_sequence : (a : Board) (h : Bool) (n : ℕ) (job : Job) (slice : Slice) (steps : List Step) → accesses_of (record a { held = h; since = n }) job slice steps ≡ accesses_of a job slice steps
 unfolding accesses_of
-held_sequence a h job slice steps = refl
+held_sequence a h n job slice steps = refl
 
 -- a sequence between a hold and a release
 pub record Ran (a d : Board) (job : Job) (slice : Slice) (steps : List Step) (ta td : Option (List Touch)) (good : Bool) : Type 0 where
-  pub state : d ≡ record a { words = words_after a.fault a.words (history (accesses_of a job slice steps)); count = a.count + hold_with job.policy slice.n (length steps) }
+  pub state : d ≡ record a { words = words_after a.fault a.words (history (accesses_of a job slice steps)); count = a.count + hold_with job.policy slice.n (length steps); since = a.count }
   pub pass : good ≡ passes a.fault a.words [] (accesses_of a job slice steps)
   pub tape : Logs ta td (map touch_of (accesses_of a job slice steps))
 
 pub ran : (job : Job) (slice : Slice) (steps : List Step) {a b c d : Board} {ta tb tc td : Option (List Touch)} {pass : Bool}
-    → a.held ≡ false → b ≡ record a { held = true } → tb ≡ ta
+    → a.held ≡ false → b ≡ record a { held = true; since = a.count } → tb ≡ ta
     → Makes (accesses_of b job slice steps) b c tb tc pass → d ≡ record c { held = false } → td ≡ tc
     → Ran a d job slice steps ta td pass
 ran job slice steps {a} {b} {c} {d} {ta} {tb} {tc} {td} {pass} free e te m f tf =
-    let items : accesses_of b job slice steps ≡ accesses_of a job slice steps = ap (λ (x : Board). accesses_of x job slice steps) e ∙ held_sequence a true job slice steps in
+    let items : accesses_of b job slice steps ≡ accesses_of a job slice steps = ap (λ (x : Board). accesses_of x job slice steps) e ∙ held_sequence a true a.count job slice steps in
     let fault = ap (λ (x : Board). x.fault) e in
     let words = ap (λ (x : Board). x.words) e in
     record {
       state = f ∙ ap (λ (x : Board). record x { held = false }) (m.state ∙ ap (after_all b) items ∙ ap (λ (x : Board). after_all x (accesses_of a job slice steps)) e)
-          ∙ ap (λ (h : Bool). record (after_all a (accesses_of a job slice steps)) { held = h }) (sym free)
-          ∙ ap (λ (n : ℕ). record a { words = words_after a.fault a.words (history (accesses_of a job slice steps)); count = a.count + n }) (length-sequence a job slice steps);
+          ∙ ap (λ (h : Bool). record (after_all a (accesses_of a job slice steps)) { held = h; since = a.count }) (sym free)
+          ∙ ap (λ (n : ℕ). record a { words = words_after a.fault a.words (history (accesses_of a job slice steps)); count = a.count + n; since = a.count }) (length-sequence a job slice steps);
       pass = m.pass ∙ ap (passes b.fault b.words []) items ∙ ap (λ (x : Board). passes x.fault x.words [] (accesses_of a job slice steps)) e;
       tape = rw (← te, tf, ← items) m.tape;
     }

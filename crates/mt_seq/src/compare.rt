@@ -40,7 +40,7 @@ fn compare<P: Port>(port: &mut P, first: u32, copy: u32, n: u8) -> Option<u32>
     found
 }
 
-/// Makes one flash sequence, with interrupts held: for each of n words in rising order a read of the word, and then of
+/// Makes one flash sequence, under one hold of interrupts: for each of n words in rising order a read of the word, and then of
 /// its copy. All reads are made, whatever they answer. The answer is the address of the first word that differs.
 pub fn run_compare<P: Port>(port: &mut P, first: u32, copy: u32, n: u8) -> Option<u32>
     requires free { (P.state port.old).held ≡ false }
@@ -50,7 +50,10 @@ pub fn run_compare<P: Port>(port: &mut P, first: u32, copy: u32, n: u8) -> Optio
     requires copy { copy + n ≤ (P.state port.old).shape.flash }
     requires room { (P.state port.old).count + compare_hold n < 2 ^ 32 }
     ensures address { result ≡ comparison (P.state port.old).flash first copy n }
-    ensures state { P.state port.new ≡ record (P.state port.old) { count = (P.state port.old).count + compare_hold n } }
+    ensures state { P.state port.new ≡ record (P.state port.old) {
+      count = (P.state port.old).count + compare_hold n;
+      since = (P.state port.old).count;
+    } }
     ensures tape { Logs (P.tape port.old) (P.tape port.new) (compare_touches first copy n) }
 {
     port.hold();

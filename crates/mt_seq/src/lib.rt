@@ -1,4 +1,4 @@
-//! Sequences: the test accesses of one slice, which nothing interrupts.
+//! Sequences: the test accesses of one slice, made under one hold of interrupts.
 #![tactic(auto)]
 
 mod compare;

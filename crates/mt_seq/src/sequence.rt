@@ -160,7 +160,7 @@ fn verdict_from(pass: bool) -> Verdict
     if pass { Verdict::Pass } else { Verdict::Fail }
 }
 
-/// Makes one sequence on the slice, with interrupts held: the saving reads of a test that keeps the words, the
+/// Makes one sequence on the slice, under one hold of interrupts: the saving reads of a test that keeps the words, the
 /// algorithm's accesses, and the writes of the saved words or of the fill. All accesses are made, whatever they answer.
 pub fn run_slice<P: Port>(port: &mut P, job: &Job, slice: Slice) -> Verdict
     requires free { (P.state port.old).held ≡ false }
@@ -171,11 +171,12 @@ pub fn run_slice<P: Port>(port: &mut P, job: &Job, slice: Slice) -> Verdict
     ensures state { P.state port.new ≡ record (P.state port.old) {
       words = sequence_words (P.state port.old) job.now slice;
       count = (P.state port.old).count + sequence_hold job.now slice.n;
+      since = (P.state port.old).count;
     } }
     ensures tape { Logs (P.tape port.old) (P.tape port.new) (sequence_touches (P.state port.old) job.now slice) }
     // On sound memory.
     ensures passes { (P.state port.old).fault ≡ None → result ≡ Verdict.Pass }
-    ensures stays { (P.state port.old).fault ≡ None → sequence_words (P.state port.old) job.now slice ≡ left_words (P.state port.old).words job.now.policy slice job.now.fill }
+    ensures stays { (P.state port.old).fault ≡ None → (P.state port.new).words ≡ left_words (P.state port.old).words job.now.policy slice job.now.fill }
 {
     let width = port.shape().width;
     port.hold();

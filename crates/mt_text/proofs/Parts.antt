@@ -78,7 +78,7 @@ one_more shape callee ev rs n ops r c o = record {
     few = (let k = c.room in let m : length (rs ++ request n ops ∷ []) ≡ length rs + 1 = length-append rs (request n ops ∷ []) in omega arith);
     ordered = ordered_more rs n ops r.requests.ordered c.least;
     sound = All-push (λ (q : Request). All (IsSoundInHandler shape) q.ops.items) rs (request n ops) r.requests.sound (sound_ops shape callee ops o.good);
-    calls = All-push (IsRequest callee) rs (request n ops) r.requests.calls (record { number = c.number; few = o.few; calls = own_calls shape callee ops o.good });
+    calls = All-push (IsRequest callee) rs (request n ops) r.requests.calls (record { number = c.number; mark = refl; few = o.few; calls = own_calls shape callee ops o.good });
   };
 }
 

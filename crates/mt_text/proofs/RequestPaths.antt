@@ -254,6 +254,10 @@ marked : (shape : Shape) (m : Module) (ev : Event) (p : Part) (before : List Req
     → Leads shape ev (Handler m ev before n) ws rs → Leads shape ev p ((64 ∷ decimal n) ∷ ws) rs
 marked shape m ev p before n ws rs w lt le few k = record { last = k.last; path = (done (Handler m ev before n), (w.marks n ∙ mark_step shape m ev before n lt le few), k.path); ends = k.ends }
 
+-- a request is its offset and its operations
+request_is : (r : Request) → r.urgent ≡ false → request r.offset r.ops.items ≡ r
+request_is r mark = ap (λ (u : Bool). record { offset = r.offset; urgent = u; ops = r.ops }) (sym mark)
+
 waits_behind_mark : (shape : Shape) (m : Module) (ev : Event) (rs : List Request) (n : ℕ) → Waits shape m ev (rs ++ request n [] ∷ []) (Handler m ev rs n)
 waits_behind_mark shape m ev rs n = record { ends = refl; marks = λ k. refl }
 
@@ -263,14 +267,16 @@ waits shape m ev rs = record { ends = refl; marks = λ k. refl }
 behind_mark : (shape : Shape) (m : Module) (ev : Event) (before : List Request) (r : Request) (ops : List HandlerOp) (ps : List Piece) (rs : List Request) → r.ops.items ≡ ops → IsWithinLimits shape → AreNext shape m before (r ∷ rs)
     → ((q : Part) → Waits shape m ev (before ++ r ∷ []) q → Leads shape ev q (pieces_of ps) (before ++ r ∷ rs)) → Leads shape ev (Handler m ev before r.offset) (pieces_of (handler_pieces shape.width ops ++ ps)) (before ++ r ∷ rs)
 behind_mark shape m ev before r [] ps rs e w h more =
-    more (Handler m ev before r.offset) (subst (λ (x : List HandlerOp). Waits shape m ev (before ++ request r.offset x ∷ []) (Handler m ev before r.offset)) (sym e) (waits_behind_mark shape m ev before r.offset))
+    let mark = (All-head (IsRequest m) r rs h.calls).mark in
+    let same : before ++ request r.offset [] ∷ [] ≡ before ++ r ∷ [] = ap (λ (x : List HandlerOp). before ++ request r.offset x ∷ []) (sym e) ∙ ap (λ (q : Request). before ++ q ∷ []) (request_is r mark) in
+    more (Handler m ev before r.offset) (subst (λ (x : List Request). Waits shape m ev x (Handler m ev before r.offset)) same (waits_behind_mark shape m ev before r.offset))
 behind_mark shape m ev before r (o ∷ ops) ps rs e w h more =
     let c = All-head (IsRequest m) r rs h.calls in
     let s = All-head (λ (q : Request). All (IsSoundInHandler shape) q.ops.items) r rs h.sound in
     let good : All (IsGoodOp shape m) (o ∷ ops) = subst (λ (x : List HandlerOp). All (IsGoodOp shape m) x) e (good_ops shape m r.ops.items s c.calls) in
     let few : length (o ∷ ops) ≤ 8 = subst (λ (x : List HandlerOp). length x ≤ 8) e c.few in
     let path = handler_path shape m ev before r.offset o ops w good few in
-    let same : before ++ request r.offset (o ∷ ops) ∷ [] ≡ before ++ r ∷ [] = ap (λ (x : List HandlerOp). before ++ request r.offset x ∷ []) (sym e) in
+    let same : before ++ request r.offset (o ∷ ops) ∷ [] ≡ before ++ r ∷ [] = ap (λ (x : List HandlerOp). before ++ request r.offset x ∷ []) (sym e) ∙ ap (λ (q : Request). before ++ q ∷ []) (request_is r c.mark) in
     let q = Requests m ev (before ++ request r.offset (o ∷ ops) ∷ []) in
     let rest = more q (subst (λ (x : List Request). Waits shape m ev x q) same (waits shape m ev (before ++ request r.offset (o ∷ ops) ∷ []))) in
     subst (λ (ws : List (List ℕ)). Leads shape ev (Handler m ev before r.offset) ws (before ++ r ∷ rs)) (sym (pieces_of_append (handler_pieces shape.width (o ∷ ops)) ps))

@@ -8,7 +8,7 @@ use Rattle.std.proofs.lemmas.Nat.{pow-add}
 use Rattle.std.specs.List.{list_all, prefix_len}
 use Rattle.std.specs.Fmt.{decimal}
 use Rattle.mt_word.specs.declared.Width.{Width}
-use Rattle.mt_word.specs.declared.Width.TheVariants.{W8, W16, W32}
+use Rattle.mt_word.specs.declared.Width.TheVariants.{W8, W16, W32, W64}
 use Rattle.mt_word.specs.Word.{width_bits, Fits}
 use Rattle.mt_fault.specs.declared.fault.Spot.{Spot}
 use Rattle.mt_fault.specs.Placement.{IsSpot}
@@ -133,11 +133,13 @@ pub word_is_text : (width : Width) (w : ℕ) → is_text (word_text width w) ≡
 word_is_text W8 w = text_of_words (hex_text 2 w) (let l = hex_text_length 2 w in omega arith) (hex_text_all is_word 2 w glyph_is_word)
 word_is_text W16 w = text_of_words (hex_text 4 w) (let l = hex_text_length 4 w in omega arith) (hex_text_all is_word 4 w glyph_is_word)
 word_is_text W32 w = text_of_words (hex_text 8 w) (let l = hex_text_length 8 w in omega arith) (hex_text_all is_word 8 w glyph_is_word)
+word_is_text W64 w = text_of_words (hex_text 16 w) (let l = hex_text_length 16 w in omega arith) (hex_text_all is_word 16 w glyph_is_word)
 
 pub word_of_text : (width : Width) (w : ℕ) → Fits width w → hex_of (word_text width w) ≡ Some w
 word_of_text W8 w h = hex_of_text 2 w (lit< tt) (omega arith) h
 word_of_text W16 w h = hex_of_text 4 w (lit< tt) (omega arith) h
 word_of_text W32 w h = hex_of_text 8 w (lit< tt) (omega arith) h
+word_of_text W64 w h = hex_of_text 16 w (lit< tt) (omega arith) h
 
 -- ---- spots
 
@@ -226,6 +228,7 @@ pub spot_small : (width : Width) (size : ℕ) (s : Spot) → size ≤ 65536 → 
 spot_small W8 size s l h = let a = h.word in let b = h.bit in (omega arith, omega arith)
 spot_small W16 size s l h = let a = h.word in let b = h.bit in (omega arith, omega arith)
 spot_small W32 size s l h = let a = h.word in let b = h.bit in (omega arith, omega arith)
+spot_small W64 size s l h = let a = h.word in let b = h.bit in (omega arith, omega arith)
 
 pub spot_reads : (shape : Shape) (s : Spot) → IsWithinLimits shape → IsSpot shape.width shape.ram s → ReadsSpot shape RamSpot (spot_text s) s
 spot_reads shape s w h =

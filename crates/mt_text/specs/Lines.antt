@@ -88,7 +88,7 @@ op_form FlsTst false = barred (codes "ram") NotInHandler (mapped Call ram_handle
 
 -- a request
 abbrev pub request : ℕ → List HandlerOp → Request
-request offset ops = record { offset = offset; ops = record { items = ops } }
+request offset ops = record { offset = offset; urgent = false; ops = record { items = ops } }
 
 -- a line
 abbrev pub line : Event → List Request → Line

@@ -132,6 +132,10 @@ pub fn one_request(
     let word = cursor.next()?;
     let offset = offset(&word, last, requests.len())?;
     let ops = handler_if_any(callee, shape, cursor)?;
-    requests.push(Request { offset, ops });
+    requests.push(Request {
+        offset,
+        urgent: false,
+        ops,
+    });
     Ok(offset)
 }

@@ -1,5 +1,5 @@
 -- The serving of requests at a boundary and at an event's end.
-use Rattle.std.specs.Prelude.{ℕ, false, List, [], ◌∷◌, ◌++◌, ◌≡◌, ◌≤◌, ◌+◌, ◌-◌, length, drop, All, if◌then◌else◌, nat_le}
+use Rattle.std.specs.Prelude.{ℕ, false, List, [], ◌∷◌, ◌++◌, ◌≡◌, ◌≤◌, ◌+◌, ◌-◌, ◌%◌, ◌^◌, length, drop, All, if◌then◌else◌, nat_le}
 use Rattle.mt_port.specs.declared.board.Shape.{Shape}
 use Rattle.mt_port.specs.declared.request.Module.{Module}
 use Rattle.mt_port.specs.declared.request.HandlerCall.{HandlerCall}
@@ -41,6 +41,11 @@ abbrev pub words_by : Board → HandlerOp → List ℕ
 words_by b (App op) = op_words b op
 words_by b (Call call) = b.words
 
+-- how many operations of the application were done, modulo 2 to the power 32
+abbrev pub operations_by : Board → HandlerOp → ℕ
+operations_by b (App op) = (b.operations + 1) % 2 ^ 32
+operations_by b (Call call) = b.operations
+
 abbrev pub callee_by : {C : Type 0} → Table C → C → HandlerOp → C
 callee_by t c (App op) = c
 callee_by t c (Call call) = t.next c call
@@ -53,7 +58,7 @@ reply_by t b c (Call call) = t.reply c call
 abbrev pub operated : {C : Type 0} → Table C → Scene C → HandlerOp → Scene C
 operated t s op =
     record {
-      board = record (s.board) { words = words_by s.board op };
+      board = record (s.board) { words = words_by s.board op; operations = operations_by s.board op };
       callee = callee_by t s.callee op;
       log = s.log ++ Inner (reply_by t s.board s.callee op) ∷ [];
     }

@@ -20,9 +20,9 @@ pub record Tests (C X V : Type 0) : Type 0 where
   -- whether a slice of this test failed, from then on
   pub failed : X → V → Bool → Bool
 
--- the board after the sequence of a slice
+-- the board after the sequence of a slice, all of whose accesses were made under one hold
 abbrev pub sequenced : {C X V : Type 0} → Tests C X V → C → X → Board → Board
-sequenced t c x b = record b { words = t.words c x b; count = b.count + t.hold c x }
+sequenced t c x b = record b { words = t.words c x b; count = b.count + t.hold c x; since = b.count }
 
 -- one slice: its sequence, what its end leaves of the module, and its boundary
 abbrev pub tested : {C X V : Type 0} → Tests C X V → Bool → Scene C → X → Scene C

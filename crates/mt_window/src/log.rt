@@ -16,6 +16,12 @@ pub enum Entry {
 }
 
 impl Default for Entry {
+    ghost use Rattle.std.specs.Prelude.{◌≡◌};
+    ghost use Rattle.mt_window.specs.declared.log.Entry.{Entry};
+    ghost use Rattle.mt_window.specs.declared.reply.Reply.{Reply};
+
+    ghost is_default = { λ e. e ≡ Entry.Own Reply.Done };
+
     fn default() -> Entry {
         Entry::Own(Reply::Done)
     }

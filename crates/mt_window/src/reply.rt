@@ -21,6 +21,11 @@ pub enum TestResult {
 }
 
 impl Default for TestResult {
+    ghost use Rattle.std.specs.Prelude.{◌≡◌};
+    ghost use Rattle.mt_window.specs.declared.reply.TestResult.{TestResult};
+
+    ghost is_default = { λ r. r ≡ TestResult.NotTested };
+
     fn default() -> TestResult {
         TestResult::NotTested
     }

@@ -1,13 +1,14 @@
 use Rattle.std.specs.Prelude.{ℕ, ◌+◌, ◌-◌, ◌*◌, ◌^◌, ◌<◌, ◌==◌, Bool, true, false}
 use Rattle.std.specs.Int.{bit_at}
 use Rattle.mt_word.specs.declared.Width.{Width}
-use Rattle.mt_word.specs.declared.Width.TheVariants.{W8, W16, W32}
+use Rattle.mt_word.specs.declared.Width.TheVariants.{W8, W16, W32, W64}
 
 -- how many bits a word has
 abbrev pub width_bits : Width → ℕ
 width_bits W8 = 8
 width_bits W16 = 16
 width_bits W32 = 32
+width_bits W64 = 64
 
 -- a word of the width
 abbrev pub Fits : Width → ℕ → Type 0

@@ -1,4 +1,4 @@
-//! Words of 8, 16 or 32 bits, and their bits.
+//! Words of 8, 16, 32 or 64 bits, their bits, and words of a memory packed into bytes.
 //!
 //! A word has the type `u64` at every width. Bit 0 is the least one.
 #![tactic(auto)]
@@ -7,24 +7,30 @@ ghost use Rattle.std.specs.Prelude.{◌≡◌, ◌≢◌, ◌<◌, ◌^◌, ◌-
 ghost use Rattle.mt_word.specs.Word.{width_bits, Fits, complement_of, has_bit, put_bit};
 
 mod laws;
+mod packed;
 mod sum;
+#[cfg(test)]
+mod tests;
 
 pub use laws::bits_are_put;
+pub use packed::Words;
 pub use sum::wrapping_sum;
 
-/// How many bits a word has: 8, 16 or 32.
+/// How many bits a word has: 8, 16, 32 or 64.
 #[derive(Clone, Copy, Debug, PartialEq, Eq)]
 pub enum Width {
     W8,
     W16,
     W32,
+    /// Every `u64` is a word.
+    W64,
 }
 
 /// The answer of a call that found no memory.
 #[derive(Clone, Copy, Debug, PartialEq, Eq)]
 pub struct NoMemory;
 
-/// The number of bits of a word: 8, 16 or 32.
+/// The number of bits of a word: 8, 16, 32 or 64.
 pub fn bits(width: Width) -> u32
     ensures { result ≡ width_bits width }
 {
@@ -32,6 +38,7 @@ pub fn bits(width: Width) -> u32
         Width::W8 => 8,
         Width::W16 => 16,
         Width::W32 => 32,
+        Width::W64 => 64,
     }
 }
 

@@ -8,12 +8,12 @@ use Rattle.mt_replay.proofs.job.replay.Goals as goal
 pub returns-in-Some-clause-complete : goal.returns-in-Some-clause-complete
 returns-in-Some-clause-complete g c =
     let job = c.replay_job.ensures in
-    subst (λ (f : Option Form). Completes f c.replay_job.result (g.B.Bench.defect c.args.board.now) (g.S.Source.left c.args.source.now) (g.S.Source.faults c.args.source.now) (g.S.Source.faults c.replay_job.new.source) (g.K.Sink.faults c.args.sink.now) (g.K.Sink.faults c.replay_job.new.sink))
+    subst (λ (f : Option Form). Completes f c.replay_job.result (g.B.Port.state c.args.board.now).defect (g.S.Source.left c.args.source.now) (g.S.Source.faults c.args.source.now) (g.S.Source.faults c.replay_job.new.source) (g.K.Sink.faults c.args.sink.now) (g.K.Sink.faults c.replay_job.new.sink))
     (sym (sym c.form_of.ensures ∙ c.in-Some.is))
-    (completes c.replay_job.result c.in-Some.form (g.B.Bench.defect c.args.board.now) _ _ _ _ _ _ _ job.gives job.cause)
+    (completes c.replay_job.result c.in-Some.form (g.B.Port.state c.args.board.now).defect _ _ _ _ _ _ _ job.gives job.cause)
 
 pub returns-in-Some-clause-latency : goal.returns-in-Some-clause-latency
-returns-in-Some-clause-latency g c = requests_wait_shortly (g.B.Bench.defect c.args.board.now)
+returns-in-Some-clause-latency g c = requests_wait_shortly (g.B.Port.state c.args.board.now).defect
 
 pub returns-in-None-clause-latency : goal.returns-in-None-clause-latency
-returns-in-None-clause-latency g c = requests_wait_shortly (g.B.Bench.defect c.args.board.now)
+returns-in-None-clause-latency g c = requests_wait_shortly (g.B.Port.state c.args.board.now).defect

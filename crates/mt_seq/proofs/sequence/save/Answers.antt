@@ -8,7 +8,7 @@ use Rattle.mt_plan.specs.Lists.{cells}
 use Rattle.mt_port.specs.declared.board.Shape.{Shape}
 use Rattle.mt_port.specs.Board.{Board, answered}
 use Rattle.mt_fault.specs.Items.{Look}
-use Rattle.mt_seq.proofs.Makes.{Makes-nil, Makes-cell, Makes-one, Makes-same}
+use Rattle.mt_seq.proofs.Makes.{Makes-nil, Makes-cell, Makes-one, Makes-same, touched}
 use Rattle.mt_seq.proofs.sequence.save.Goals as goal
 
 pub loop-cell-init : goal.loop-cell-init
@@ -44,7 +44,7 @@ loop-cell-preserved g c =
       fit = subst (λ (xs : List ℕ). All (Fits a.shape.width) xs) (sym c.push.ensures.items) (All-push (Fits a.shape.width) c.loop-cell.saved.items c.read-word.result inv.fit fits);
       made = omega (arith, count);
       kept = ap (λ (x : Board). x.words) state ∙ read_leaves _ (first + c.from.result) (g.met.P.Port.sound c.loop-cell.port).memory ∙ inv.kept;
-      does = Makes-cell (λ cell. Look (first + cell)) i (g.met.P.Port.sound c.args.port.now) inv.does (rw at at (Makes-one (Look (first + c.from.result)) (g.met.P.Port.sound c.loop-cell.port) state inside refl c.read-word.ensures.tape));
+      does = Makes-cell (λ cell. Look (first + cell)) i (g.met.P.Port.sound c.args.port.now) inv.does (rw at at (Makes-one (Look (first + c.from.result)) (g.met.P.Port.sound c.loop-cell.port) state inside refl (touched (g.P.Port.tape c.loop-cell.port) (g.P.Port.tape c.read-word.new.self) _ _ c.read-word.ensures.tape)));
     }
 
 pub returns-clause-made : goal.returns-clause-made
