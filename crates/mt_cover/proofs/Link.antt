@@ -6,9 +6,9 @@ use Rattle.std.proofs.lemmas.Bool.{eq-eqb, ne_eqb, or_cases, cases_eq, cases_Boo
 use Rattle.std.proofs.lemmas.Nat.Bits.{bit_at_not, bit_at-lt}
 use Rattle.std.proofs.lemmas.Bool.Decides.{nat_tests}
 use Rattle.std.specs.Int.{bit_at}
-use mir.Syntax.{w8, w16, w32}
+use mir.Syntax.{w8, w16, w32, w64}
 use Rattle.mt_word.specs.declared.Width.{Width}
-use Rattle.mt_word.specs.declared.Width.TheVariants.{W8, W16, W32}
+use Rattle.mt_word.specs.declared.Width.TheVariants.{W8, W16, W32, W64}
 use Rattle.mt_word.specs.Word.{width_bits, Fits, has_bit, complement_of}
 use Rattle.mt_fault.specs.declared.fault.Spot.{Spot}
 use Rattle.mt_fault.specs.declared.fault.Fault.{Fault}
@@ -32,6 +32,7 @@ unfolding has_bit
 complement_bit W8 x i fits within = ap (λ (t : ℕ). t == 1) (bit_at_not w8 x i fits within) ∙ not_one (bit_at x i) (bit_at-lt x i)
 complement_bit W16 x i fits within = ap (λ (t : ℕ). t == 1) (bit_at_not w16 x i fits within) ∙ not_one (bit_at x i) (bit_at-lt x i)
 complement_bit W32 x i fits within = ap (λ (t : ℕ). t == 1) (bit_at_not w32 x i fits within) ∙ not_one (bit_at x i) (bit_at-lt x i)
+complement_bit W64 x i fits within = ap (λ (t : ℕ). t == 1) (bit_at_not w64 x i fits within) ∙ not_one (bit_at x i) (bit_at-lt x i)
 
 -- one part that fails
 left_fails : (p q : Bool) → p ≡ false → (p && q) ≡ false
