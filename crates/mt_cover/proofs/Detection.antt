@@ -3,12 +3,10 @@ use Rattle.std.proofs.Common.{ℕ, zero, suc, ◌+◌, ◌<◌, ◌≤◌, ◌�
 use Rattle.std.specs.Prelude.{slice_index}
 use Rattle.std.proofs.lemmas.List.{length-map}
 use Rattle.std.proofs.lemmas.List.Elements.{All-map, All-nil, All-push}
-use Rattle.std.proofs.lemmas.List.FromFn.{get_or-map-range_with_len}
 use Rattle.mt_word.specs.declared.Width.{Width}
 use Rattle.mt_word.specs.Word.{Fits}
 use Rattle.mt_fault.specs.declared.fault.Fault.{Fault}
-use Rattle.mt_fault.specs.declared.fault.Fault.TheVariants.{StuckAt, CannotRise, CannotFall, Invert, Force, State, NoCell, Also, Instead}
-use Rattle.mt_fault.specs.Faulty.{answer, answer_under, stored, stored_under, words_after}
+use Rattle.mt_fault.specs.Faulty.{answer}
 use Rattle.mt_fault.specs.Items.{passes}
 use Rattle.mt_fault.specs.Memory as memory
 use Rattle.mt_plan.specs.declared.algorithm.Algorithm.{Algorithm}
@@ -25,24 +23,9 @@ use Rattle.mt_cover.specs.declared.class.Class.TheVariants as classes
 use Rattle.mt_cover.specs.Coverage.{class_of, IsTabled, HasOneWord, Coverage}
 use Rattle.mt_cover.specs.Detection.{Detection}
 
--- a word that is stored at first, where the rule of the fault holds of the words
-stored_first : (fault : Fault) (words : List ℕ) (a : ℕ) → words_after (Some fault) words [] ≡ words → a < length words → stored_under fault words [] a ≡ slice_index words a
-unfolding words_after stored
-stored_first fault words a settled h =
-    sym (get_or-map-range_with_len (stored_under fault words []) 0 (length words) a a 0 h (omega arith)) ∙ ap (λ (l : List ℕ). get_or l a 0) settled
-
--- a read under a fault of a transparent test answers the stored word
-reads_stored : (fault : Fault) (words : List ℕ) (a : ℕ) → IsTabled TransparentGalpat (class_of fault) → answer (Some fault) words [] a ≡ stored_under fault words [] a
-unfolding answer_under
-reads_stored (StuckAt vic value) words a h = refl
-reads_stored (CannotRise vic) words a h = refl
-reads_stored (CannotFall vic) words a h = refl
-reads_stored (Invert agg rise vic) words a h = refl
-reads_stored (Force agg rise vic value) words a h = absurd h.0
-reads_stored (State agg holds vic value) words a h = absurd h.0
-reads_stored (NoCell addr seen) words a h = absurd (h.1 refl)
-reads_stored (Also addr other wired_and) words a h = absurd (h.1 refl)
-reads_stored (Instead addr other) words a h = absurd (h.1 refl)
+-- a read of a sound memory answers a word that fits: the law of mt_fault
+abbrev pub AnswersFit : Type 0
+AnswersFit = (m : memory.Memory) → memory.IsSound m → (a : ℕ) → a < length m.words → Fits m.width (answer m.fault m.words [] a)
 
 cells_below : (n : ℕ) → All (λ (c : ℕ). c < n) (cells n)
 cells_below zero = All-nil (λ (c : ℕ). c < zero)
@@ -53,29 +36,28 @@ length-cells zero = refl
 length-cells (suc n) = simp length-append (omega (arith, length-cells n))
 
 -- the saved words fit
-saved_fit : (width : Width) (fault : Fault) (words : List ℕ) (slice : Slice) → memory.IsSound (record { width = width; fault = Some fault; words = words }) → IsTabled TransparentGalpat (class_of fault)
+saved_fit : AnswersFit → (width : Width) (fault : Fault) (words : List ℕ) (slice : Slice) → memory.IsSound (record { width = width; fault = Some fault; words = words })
     → slice.first + slice.n ≤ length words → All (Fits width) (saved_words NonDestructive (Some fault) words slice)
-saved_fit width fault words slice sound tabled inside =
+saved_fit answers_fit width fault words slice sound inside =
     All-map (Fits width) (λ (cell : ℕ). answer (Some fault) words [] (slice.first + cell)) (cells slice.n)
     (λ k d h.
     let cell = get_or (cells slice.n) k d in
     let below : cell < slice.n = cells_below slice.n k d h in
-    let at : slice.first + cell < length words = omega (arith, below, inside) in
-    subst (Fits width) (sym (reads_stored fault words (slice.first + cell) tabled ∙ stored_first fault words (slice.first + cell) sound.settled at)) (sound.fits (slice.first + cell) at))
+    answers_fit (record { width = width; fault = Some fault; words = words }) sound (slice.first + cell) (omega (arith, below, inside)))
 
 -- each background word fits
-back_fits : (alg : Algorithm) (policy : Policy) (width : Width) (fault : Fault) (words : List ℕ) (background fill : ℕ) (slice : Slice)
-    → IsTabled alg (class_of fault) → (is_transparent alg ≡ true → policy ≡ NonDestructive) → Fits width background
+back_fits : AnswersFit → (alg : Algorithm) (policy : Policy) (width : Width) (fault : Fault) (words : List ℕ) (background fill : ℕ) (slice : Slice)
+    → (is_transparent alg ≡ true → policy ≡ NonDestructive) → Fits width background
     → memory.IsSound (record { width = width; fault = Some fault; words = words }) → slice.first + slice.n ≤ length words
     → (cell : ℕ) → cell < slice.n → Fits width (back_of (record { alg = alg; policy = policy; background = background; fill = fill }) (saved_words policy (Some fault) words slice) cell)
-back_fits Checkerboard policy width fault words background fill slice tabled kept fits sound inside cell h = fits
-back_fits (March march) policy width fault words background fill slice tabled kept fits sound inside cell h = fits
-back_fits WalkPath policy width fault words background fill slice tabled kept fits sound inside cell h = fits
-back_fits Galpat policy width fault words background fill slice tabled kept fits sound inside cell h = fits
-back_fits TransparentGalpat policy width fault words background fill slice tabled kept fits sound inside cell h =
+back_fits answers_fit Checkerboard policy width fault words background fill slice kept fits sound inside cell h = fits
+back_fits answers_fit (March march) policy width fault words background fill slice kept fits sound inside cell h = fits
+back_fits answers_fit WalkPath policy width fault words background fill slice kept fits sound inside cell h = fits
+back_fits answers_fit Galpat policy width fault words background fill slice kept fits sound inside cell h = fits
+back_fits answers_fit TransparentGalpat policy width fault words background fill slice kept fits sound inside cell h =
     let saves = kept refl in
     subst (λ (p : Policy). Fits width (slice_index (saved_words p (Some fault) words slice) cell)) (sym saves)
-    (saved_fit width fault words slice sound tabled inside cell 0 (omega (arith, h, length-map (cells slice.n) (λ (c : ℕ). answer (Some fault) words [] (slice.first + c)), length-cells slice.n)))
+    (saved_fit answers_fit width fault words slice sound inside cell 0 (omega (arith, h, length-map (cells slice.n) (λ (c : ℕ). answer (Some fault) words [] (slice.first + c)), length-cells slice.n)))
 
 -- a tabled decoder fault is one of a test with one background word
 one_word : (alg : Algorithm) (policy : Policy) (background fill : ℕ) (saved : List ℕ) (n : ℕ) (class : Class) → IsTabled alg class → class ≡ classes.Decoder
@@ -86,15 +68,15 @@ one_word WalkPath policy background fill saved n class tabled is i j h g = refl
 one_word Galpat policy background fill saved n class tabled is i j h g = refl
 one_word TransparentGalpat policy background fill saved n class tabled is i j h g = absurd (tabled.1 is)
 
-pub detection : Coverage → CaughtFaultsFail → Detection
-detection coverage caught_fails b job slice fault sound present good at tabled inside =
+pub detection : Coverage → CaughtFaultsFail → AnswersFit → Detection
+detection coverage caught_fails answers_fit b job slice fault sound present good at tabled inside =
     let width = b.shape.width in
     let saved = saved_words job.policy b.fault b.words slice in
     let whole = subst (λ (f : Option Fault). memory.IsSound (record { width = width; fault = f; words = b.words })) present sound.memory in
     let within : slice.first + slice.n ≤ length b.words = omega (arith, at.inside, sound.sized) in
     let fits : (cell : ℕ) → cell < slice.n → Fits width (back_of job saved cell) =
     λ cell h. subst (λ (f : Option Fault). Fits width (back_of job (saved_words job.policy f b.words slice) cell)) (sym present)
-    (back_fits job.alg job.policy width fault b.words job.background job.fill slice tabled good.kept good.background whole within cell h) in
+    (back_fits answers_fit job.alg job.policy width fault b.words job.background job.fill slice good.kept good.background whole within cell h) in
     caught_fails b job slice (λ earlier.
     ap (λ (f : Option Fault). passes f b.words earlier (testing width job slice saved (steps_of job.alg slice.n))) present
     ∙ coverage job.alg fault good.accepted tabled width (length b.words) slice.first slice.n (back_of job saved) whole.placed inside fits

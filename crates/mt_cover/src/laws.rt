@@ -5,7 +5,7 @@ ghost use Rattle.mt_cover.specs.Detection.{Detection};
 ghost use Rattle.mt_cover.specs.Further.{FurtherCoverage, MatsCatchesOneDirection};
 
 use mt_decoder::nothing_is_missed_where_all_pass;
-use mt_fault::{last_access_decides, other_words_do_not_matter};
+use mt_fault::{last_access_decides, memory_stays_sound, other_words_do_not_matter};
 use mt_plan::{kept_cells, march_on_kept_cells};
 use mt_seq::caught_faults_fail;
 
@@ -35,6 +35,7 @@ pub fn each_tabled_fault_in_a_slice_fails()
 {
     each_tabled_fault_is_caught();
     caught_faults_fail();
+    memory_stays_sound();
 }
 
 /// Beyond the table: March C- with `u` in place of `*`, MATS+ with stuck-at and decoder faults and with the transition
