@@ -48,7 +48,6 @@ pub fn caught_at(
     requires some { 1 ≤ n }
     requires small { n ≤ 64 }
     requires inside { first + n ≤ length cells.old.words }
-    requires addresses { first + n ≤ 2 ^ 32 }
     requires background { Fits cells.old.width background }
     requires accepted { IsAccepted alg.now }
     requires fixed { alg.now ≢ Algorithm.TransparentGalpat }

@@ -74,7 +74,7 @@ impl PlainBoard {
 
 #[tactic(auto, using(mt_fault::proofs::PlainMemory::plain_write, mt_fault::proofs::PlainMemory::plain_read))]
 impl Port for PlainBoard {
-    ghost use Rattle.std.proofs.Common.{lit≤};
+    ghost use Rattle.std.proofs.Common.{lit≤, subst, sym};
     ghost use Rattle.mt_fault.proofs.PlainMemory.{plain_still};
     ghost use Rattle.mt_port.specs.PlainBoard.{plain_state, plain_tape};
 
@@ -84,7 +84,7 @@ impl Port for PlainBoard {
 
     ghost keeps = { 256 };
 
-    ghost sound = { λ b. record { sized = b.sized; limit = b.limit; flash_limit = b.flash_limit; memory = record { fits = λ a inside. b.fit a 0 inside; placed = tt; settled = plain_still b.words.items }; flash_sized = b.flash_sized; flash_fit = b.flash_fit; few = lit≤ tt } };
+    ghost sound = { λ b. record { sized = b.sized; limit = b.limit; flash_limit = b.flash_limit; memory = record { limit = subst (λ n. n ≤ 65536) (sym b.sized) b.limit; fits = λ a inside. b.fit a 0 inside; placed = tt; settled = plain_still b.words.items }; flash_sized = b.flash_sized; flash_fit = b.flash_fit; few = lit≤ tt } };
 
     fn hold(&mut self) {
         self.held = true;
