@@ -1,6 +1,7 @@
 #!/bin/bash
-# Times `check` and `fmt` on a job of a million short lines, and a replay of 61,440,000 test accesses: 20,000 ticks of
-# March C- over 4,096 words of 32 bits. Each is run five times, and the least time is printed.
+# Times `check` and `fmt` on a job of a million short lines, a replay of 61,440,000 test accesses: 20,000 ticks of
+# March C- over 4,096 words of 32 bits, and `cut` over a pass of 65,536 slices, into one tick and into as many as there
+# are slices. Each is run five times, and the least time is printed.
 set -eu
 cd "$(dirname "${BASH_SOURCE[0]}")/.."
 scratch=$(mktemp -d)
@@ -23,6 +24,8 @@ configuration() {
     yes 'tick ram' | head -n 20000
 } >"$scratch/ticks"
 
+configuration 8 65536 | sed 's/atomic = 16/atomic = 1/' >"$scratch/slices"
+
 # The least of five times of a command over an input, in milliseconds.
 least() {
     local input=$1 best= began ended
@@ -43,3 +46,5 @@ ms=$(least "$scratch/ticks" run)
 accesses=61440000
 grep -c 'ran 3072$' "$scratch/out" | sed 's/$/ ticks of 3072 accesses/'
 echo "run: $ms ms, $((ms * 1000000 / accesses)).$((ms * 10000000 / accesses % 10)) ns per access"
+echo "cut, 65,536 slices into one tick: $(least "$scratch/slices" cut 0 4294967295 11) ms"
+echo "cut, 65,536 slices into 65,536 ticks: $(least "$scratch/slices" cut 0 12 11) ms"

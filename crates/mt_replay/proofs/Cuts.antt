@@ -2,12 +2,12 @@
 use Rattle.std.proofs.Common.{ℕ, suc, zero, ◌+◌, ◌≡◌, Bool, true, false, List, [], ◌∷◌, ◌++◌, length, Option, Some, None, Result, Ok, Err, inl, inr, refl, sym, ap, ◌∙◌, subst, append-nil}
 use Rattle.std.specs.Prelude.{nat_lt, if◌then◌else◌, slice_get, IfSome, All}
 use Rattle.std.proofs.lemmas.List.Elements.{All-head, All-tail}
-use Rattle.std.specs.Io.KnownBytes.{prepend_known, Appends}
-use Rattle.mt_port.specs.Streams.{WhereTold, AppendsFront}
+use Rattle.std.specs.Io.KnownBytes.{prepend_known}
+use Rattle.mt_port.specs.Streams.{WhereTold}
 use Rattle.mt_port.specs.Board.{Board}
 use Rattle.mt_port.specs.declared.board.Shape.{Shape}
 use Rattle.mt_port.specs.declared.board.Touch.{Touch}
-use Rattle.mt_port.proofs.StreamLemmas.{WhereTold-map, WhereTold-then}
+use Rattle.mt_port.proofs.StreamLemmas.{WhereTold-map}
 use Rattle.mt_fault.specs.declared.fault.Fault.{Fault as MemoryFault}
 use Rattle.mt_text.specs.declared.line.Line.{Line}
 use Rattle.mt_text.specs.declared.line.LineRefusal.{LineRefusal}
@@ -18,7 +18,6 @@ use Rattle.mt_cut.specs.Cuts.{first_above, longest_runs, LongestRunsAreUnder, Lo
 use Rattle.mt_cut.specs.Atomic.{largest}
 use Rattle.mt_conf.specs.declared.config.Config.{Config}
 use Rattle.mt_conf.specs.Accepted.{IsAcceptedConfig}
-use Rattle.mt_replay.specs.declared.cut_job.Checked.{Checked}
 use Rattle.mt_replay.specs.declared.cut_job.Checked.TheVariants as checked
 use Rattle.mt_replay.specs.declared.form.Ask.{Ask}
 use Rattle.mt_replay.specs.declared.form.Command.{Command}
@@ -31,9 +30,9 @@ use Rattle.mt_replay.specs.declared.status.Status.{Status}
 use Rattle.mt_replay.specs.declared.status.Status.TheVariants as status
 use Rattle.mt_replay.specs.Input.{Ending, Finished, Failed, Cut, cut, job_of}
 use Rattle.mt_replay.specs.Machine.{Machine}
-use Rattle.mt_replay.specs.Outcome.{Run, Outcome, outcome, refused, refused_text, rule_number, bad_config_text, read_fault, read_fault_text, done, reaction, stepped, answered, judged, last_judged, run_lines, run_script}
-use Rattle.mt_replay.specs.Run.{Change, Ends, Breaks}
-use Rattle.mt_replay.specs.Cut.{chosen_text, cut_text, with_text, answered as cut_answered, config_in, cut_outcome, ticks_text, largest_text, pass_text, set_text, TellsLeast, TicksAreLeast}
+use Rattle.mt_replay.specs.Outcome.{Run, Outcome, outcome, refused, refused_text, rule_number, bad_config_text, read_fault, read_fault_text, done, answered, judged, last_judged, run_lines, run_script}
+use Rattle.mt_replay.specs.Run.{Ends, Breaks}
+use Rattle.mt_replay.specs.Cut.{chosen_text, cut_text, with_text, answered as cut_answered, config_in, cut_outcome, ticks_text, largest_text, pass_text, set_text, TicksAreLeast}
 use Rattle.mt_replay.specs.CutJob.{said, CheckGives}
 use Rattle.mt_replay.specs.Replay.{Begins, BeginsEmpty, FoundGives, HeadFails, outcomes, cut_outcomes, command_outcomes, TellsLeastTicks, Concluded, TakenGive, JobGives, Told, Outcomes}
 use Rattle.mt_replay.proofs.Runs.{change}

@@ -1,12 +1,12 @@
 -- Texts that are written piece by piece, and the ticks of a cut.
-use Rattle.std.proofs.Common.{ℕ, ◌+◌, ◌≤◌, ◌≡◌, List, [], ◌∷◌, ◌++◌, length, take, drop, Option, Some, None, refl, sym, ap, ◌∙◌, subst, arith, append_assoc, append-nil}
+use Rattle.std.proofs.Common.{ℕ, ◌+◌, ◌≤◌, ◌≡◌, List, [], ◌∷◌, ◌++◌, length, take, drop, Option, refl, sym, ap, ◌∙◌, subst, arith, append_assoc, append-nil}
 use Rattle.std.specs.Prelude.{sum, All, slice_index}
 use Rattle.std.specs.Io.KnownBytes.{Appends}
-use Rattle.std.proofs.lemmas.List.Elements.{All-head, All-drop}
+use Rattle.std.proofs.lemmas.List.Elements.{All-head}
 use Rattle.mt_port.specs.Streams.{AppendsFront}
 use Rattle.mt_port.proofs.StreamLemmas.{Appends-nil, Appends-trans, AppendsFront-after, AppendsFront-more}
 use Rattle.mt_cut.specs.Cuts.{longest_runs}
-use Rattle.mt_replay.specs.Cut.{tick_text, tick_lines, count_text, ticks_text}
+use Rattle.mt_replay.specs.Cut.{tick_text, tick_lines, count_text}
 
 -- A front of a text was written, and this is left of it.
 pub record Partly (all rest : List ℕ) (held held' : Option (List ℕ)) : Type 0 where

@@ -39,7 +39,8 @@ fn check_lines<S: Source, B: Bench>(
     board: &mut B,
 ) -> Checked
     requires { IsAcceptedConfig config }
-    ensures gives { (a : Option (List ℕ)) (defect : Option MemoryFault) → WhereTold a (prepend_known input.old (S.left source.old)) (Begins config) → CheckGives result defect a (S.left source.new) }
+    ensures gives { (a : Option (List ℕ)) (defect : Option MemoryFault) → WhereTold a (prepend_known input.old (S.left source.old)) (Begins config)
+        → CheckGives result defect a (S.left source.new) }
     ensures board { (B.state board.new ≡ B.state board.old) × (B.tape board.new ≡ B.tape board.old) }
     ensures cause { CheckCaused result (S.faults source.old) (S.faults source.new) }
 {
@@ -72,7 +73,8 @@ fn cut_script<S: Source, K: Sink, B: Bench>(
     requires accepted { IsAcceptedConfig config }
     requires set { IfSome set.now IsOfAccepted }
     requires chosen { chosen_text ask set.now ≡ cut_text ask config }
-    ensures gives { (a : Option (List ℕ)) (defect : Option MemoryFault) → WhereTold a (prepend_known input.old (S.left source.old)) (Begins config) → JobGives result (cut_outcomes ask defect) (B.state board.old) (B.state board.new)
+    ensures gives { (a : Option (List ℕ)) (defect : Option MemoryFault) → WhereTold a (prepend_known input.old (S.left source.old)) (Begins config)
+        → JobGives result (cut_outcomes ask defect) (B.state board.old) (B.state board.new)
         (record { left = a; left' = S.left source.new; held = K.held sink.old; held' = K.held sink.new; tape = B.tape board.old; tape' = B.tape board.new }) }
     ensures cause { StatusCaused result (S.faults source.old) (S.faults source.new) (K.faults sink.old) (K.faults sink.new) }
     ensures board { (B.state board.new ≡ B.state board.old) × (B.tape board.new ≡ B.tape board.old) }
@@ -100,7 +102,8 @@ fn cut_config<S: Source, K: Sink, B: Bench>(
     board: &mut B,
 ) -> Status
     requires { IsAcceptedConfig config }
-    ensures gives { (a : Option (List ℕ)) (defect : Option MemoryFault) → WhereTold a (prepend_known input.old (S.left source.old)) (FoundGives (Found.Config config script)) → JobGives result (cut_outcomes ask defect) (B.state board.old) (B.state board.new)
+    ensures gives { (a : Option (List ℕ)) (defect : Option MemoryFault) → WhereTold a (prepend_known input.old (S.left source.old)) (FoundGives (Found.Config config script))
+        → JobGives result (cut_outcomes ask defect) (B.state board.old) (B.state board.new)
         (record { left = a; left' = S.left source.new; held = K.held sink.old; held' = K.held sink.new; tape = B.tape board.old; tape' = B.tape board.new }) }
     ensures cause { StatusCaused result (S.faults source.old) (S.faults source.new) (K.faults sink.old) (K.faults sink.new) }
     ensures board { (B.state board.new ≡ B.state board.old) × (B.tape board.new ≡ B.tape board.old) }
@@ -126,7 +129,8 @@ pub fn cut_found<S: Source, K: Sink, B: Bench>(
     board: &mut B,
 ) -> Status
     requires { IsAcceptedFound found }
-    ensures gives { (a : Option (List ℕ)) (defect : Option MemoryFault) → WhereTold a (prepend_known input.old (S.left source.old)) (FoundGives found) → JobGives result (cut_outcomes ask defect) (B.state board.old) (B.state board.new)
+    ensures gives { (a : Option (List ℕ)) (defect : Option MemoryFault) → WhereTold a (prepend_known input.old (S.left source.old)) (FoundGives found)
+        → JobGives result (cut_outcomes ask defect) (B.state board.old) (B.state board.new)
         (record { left = a; left' = S.left source.new; held = K.held sink.old; held' = K.held sink.new; tape = B.tape board.old; tape' = B.tape board.new }) }
     ensures cause { StatusCaused result (S.faults source.old) (S.faults source.new) (K.faults sink.old) (K.faults sink.new) }
     ensures free { StaysFree (B.state board.old) (B.state board.new) }

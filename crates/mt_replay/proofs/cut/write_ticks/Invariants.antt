@@ -1,4 +1,4 @@
-use Rattle.std.proofs.Common.{ℕ, ◌≡◌, ◌+◌, ◌*◌, ◌≤◌, List, length}
+use Rattle.std.proofs.Common.{◌≡◌, ◌+◌, ◌*◌, ◌≤◌, length}
 use Rattle.std.specs.Prelude.{IfSome, All}
 use Rattle.mt_blocks.specs.Slices.{IsValid}
 use Rattle.mt_blocks.specs.Accepted.{spans_of}
