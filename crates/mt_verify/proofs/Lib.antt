@@ -1,0 +1,4 @@
+pub mod Lines
+pub mod Least
+pub mod Whole
+pub mod Ends
