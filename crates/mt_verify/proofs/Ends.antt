@@ -1,10 +1,10 @@
 -- The first other line behind what two texts share.
-use Rattle.std.proofs.Common.{ℕ, ◌+◌, ◌<◌, ◌≡◌, ◌≢◌, ◌==◌, inl, inr, Bool, true, false, cond, ◌&&◌, List, [], ◌∷◌, ◌++◌, length, Option, Some, None, option_map, bytes_eq, refl, sym, ap, ap₂, ◌∙◌, subst, arith}
+use Rattle.std.proofs.Common.{ℕ, ◌+◌, ◌≡◌, ◌≢◌, inl, inr, Bool, false, cond, ◌&&◌, List, [], ◌∷◌, ◌++◌, Some, None, option_map, bytes_eq, refl, sym, ap, ap₂, ◌∙◌, subst, arith}
 use Rattle.std.specs.List.{onto_first}
 use Rattle.std.proofs.lemmas.Bool.{ne_eqb, eq-eqb, cases_eq}
 use Rattle.mt_verify.specs.Lines.{feeds, lines, first_other, first_other_line, line_at_end}
-use Rattle.mt_verify.specs.Laws.{IsWhole, HasOpenLine, HasNoEmptyLine, MismatchesTell, ExpectedEnds, GivenEnds, GivenEndsInALine, GivenEndsBeforeAFeed, GivenEndsBetweenLines, EqualTextsHaveNoOther, LastFeedMayLack}
-use Rattle.mt_verify.proofs.Lines.{lines-nil, lines-feed, lines-byte, lined, begins_with, longer, feeds-feed, feeds-byte, next, other-more, other-fewer, other-same, other-here, feed_before, grown}
+use Rattle.mt_verify.specs.Laws.{HasOpenLine, HasNoEmptyLine, MismatchesTell, ExpectedEnds, GivenEnds, GivenEndsInALine, GivenEndsBeforeAFeed, GivenEndsBetweenLines, EqualTextsHaveNoOther, LastFeedMayLack}
+use Rattle.mt_verify.proofs.Lines.{lines-nil, lines-feed, lines-byte, lined, begins_with, longer, feeds-byte, next, other-more, other-fewer, other-same, other-here, feed_before, grown}
 use Rattle.mt_verify.proofs.Least.{other-refl}
 use Rattle.mt_verify.proofs.Whole.{open_line}
 

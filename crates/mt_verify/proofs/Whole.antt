@@ -1,9 +1,9 @@
 -- Texts of whole lines.
-use Rattle.std.proofs.Common.{ℕ, ◌+◌, ◌<◌, ◌≡◌, ◌≢◌, inl, inr, List, [], ◌∷◌, ◌++◌, length, refl, sym, ap, ◌∙◌, subst, arith}
+use Rattle.std.proofs.Common.{ℕ, ◌<◌, ◌≡◌, ◌≢◌, inl, inr, List, [], ◌∷◌, ◌++◌, length, refl, sym, ap, ◌∙◌, subst, arith}
 use Rattle.std.specs.List.{AllByRecursion, onto_first}
 use Rattle.std.proofs.lemmas.Bool.{cases_eq}
 use Rattle.mt_verify.specs.Lines.{feeds, lines}
-use Rattle.mt_verify.specs.Laws.{HasNoFeed, IsWhole, HasOpenLine, HasNoEmptyLine, LinesEndAtFeeds, LinesJoin, FeedsMakeWhole, WholeTextsJoin, WholeTextsHaveTheirFeeds}
+use Rattle.mt_verify.specs.Laws.{HasOpenLine, HasNoEmptyLine, LinesEndAtFeeds, LinesJoin, FeedsMakeWhole, WholeTextsJoin, WholeTextsHaveTheirFeeds}
 use Rattle.mt_verify.proofs.Lines.{lines-nil, lines-feed, lines-byte, Lined, lined, feeds-feed, feeds-byte}
 
 pub line_first : LinesEndAtFeeds
