@@ -6,6 +6,7 @@ mod laws;
 mod tally;
 #[cfg(test)]
 mod tests;
+mod texts;
 
 pub use compare::common;
 pub use laws::{
@@ -13,3 +14,4 @@ pub use laws::{
     whole_lines,
 };
 pub use tally::Tally;
+pub use texts::first_other;

@@ -1,10 +1,6 @@
-// Texts compared as a caller compares them, against first other lines that were worked out by hand.
+// Texts against first other lines that were worked out by hand.
 
-ghost use Rattle.std.specs.Prelude.{◌≡◌, ◌<◌, length};
-ghost use Rattle.mt_verify.specs.Lines.{feed_limit, first_other_line};
-ghost use Rattle.mt_verify.specs.Laws.{IsWhole, HasNoEmptyLine};
-
-use crate::{Tally, common};
+use crate::{Tally, common, first_other};
 
 #[test]
 fn common_prefixes(rt: HostRuntime) {
@@ -23,29 +19,6 @@ fn common_prefixes(rt: HostRuntime) {
             assert_eq!(rt; common(expected, given), length);
         }
     }
-}
-
-// The comparison of two texts as a caller makes it, by the laws; each expected line has its line feed, and none is empty.
-fn first_other(expected: &[u8], given: &[u8]) -> Option<u32>
-    requires short { length expected.now < feed_limit }
-    requires whole { IsWhole expected.now }
-    requires full { HasNoEmptyLine expected.now }
-    ensures { result ≡ first_other_line expected.now given.now }
-{
-    let same = common(expected, given) as usize;
-    let mut tally = Tally::new();
-    tally.take(&expected[..same]);
-    if same < given.len() {
-        return Some(tally.other_line());
-    }
-    if same == expected.len() {
-        return None;
-    }
-    let next = expected[same];
-    if next == b'\n' && same + 1 == expected.len() {
-        return None;
-    }
-    Some(tally.ended_line(next))
 }
 
 #[test]

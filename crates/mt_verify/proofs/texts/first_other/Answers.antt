@@ -1,8 +1,8 @@
 use Rattle.std.proofs.Common.{ℕ, ◌+◌, ◌<◌, ◌≡◌, Some, length, take, slice_index, sym, ap, ◌∙◌, arith}
 use Rattle.mt_verify.specs.Lines.{feeds, line_at_end}
 use Rattle.mt_verify.proofs.Pieces.{apart, both_ended, feed_left, more_left}
-use Rattle.mt_verify.proofs.tests.first_other.Goals.{else-next-eq10-via-then-next-eq10+else-same-expected-2, else-next-eq10-via-else-next-eq10}
-use Rattle.mt_verify.proofs.tests.first_other.Goals as goal
+use Rattle.mt_verify.proofs.texts.first_other.Goals.{else-next-eq10-via-then-next-eq10+else-same-expected-2, else-next-eq10-via-else-next-eq10}
+use Rattle.mt_verify.proofs.texts.first_other.Goals as goal
 
 pub returns-then-same-given : goal.returns-then-same-given
 returns-then-same-given c =
