@@ -1,6 +1,7 @@
 //! Laws of the first other line.
 
-ghost use Rattle.mt_verify.specs.Laws.{FirstOtherIsLeast, NoOtherWhereEqual, LinesEndAtFeeds, LinesJoin, FeedsMakeWhole, WholeTextsJoin, WholeTextsHaveTheirFeeds};
+ghost use Rattle.mt_verify.specs.Laws.{FirstOtherIsLeast, NoOtherWhereEqual};
+ghost use Rattle.mt_verify.specs.Laws.{LinesEndAtFeeds, LinesJoin, FeedsMakeWhole, WholeTextsJoin, WholeTextsHaveTheirFeeds};
 ghost use Rattle.mt_verify.specs.Laws.{MismatchesTell, ExpectedEnds, GivenEnds, GivenEndsInALine, GivenEndsBeforeAFeed, GivenEndsBetweenLines};
 ghost use Rattle.mt_verify.specs.Laws.{EqualTextsHaveNoOther, LastFeedMayLack};
 
