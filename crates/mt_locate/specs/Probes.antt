@@ -1,5 +1,5 @@
 -- What is asked of a probe, and the words that stand for its slice.
-use Rattle.std.specs.Prelude.{ℕ, ◌+◌, ◌*◌, ◌≤◌, ◌≢◌, None, replicate}
+use Rattle.std.specs.Prelude.{◌+◌, ◌*◌, ◌≤◌, ◌≢◌, None, replicate}
 use Rattle.mt_word.specs.Word.{width_bits, Fits}
 use Rattle.mt_fault.specs.Memory.{Memory}
 use Rattle.mt_plan.specs.declared.algorithm.Algorithm.TheVariants.{TransparentGalpat}

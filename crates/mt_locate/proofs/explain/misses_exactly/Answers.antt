@@ -1,11 +1,10 @@
-use Rattle.std.proofs.Common.{◌≡◌, ◌<◌, ◌+◌, ◌↔◌, ℕ, List, [], Bool, true, false, Option, Some, None, length, ap, ◌∙◌, refl, sym, subst, arith}
-use Rattle.std.specs.Prelude.{◌↔◌, slice_get, is_some, if◌then◌else◌}
+use Rattle.std.proofs.Common.{◌≡◌, ◌+◌, ℕ, List, Bool, length, ap, ◌∙◌, sym, subst, arith}
+use Rattle.std.specs.Prelude.{if◌then◌else◌}
 use Rattle.std.proofs.lemmas.Bool.{eq-eqb, eqb-true}
 use Rattle.mt_fault.specs.Items.{Item}
 use Rattle.mt_fault.specs.Memory.{Memory}
 use Rattle.mt_plan.specs.Accesses.{act_on}
 use Rattle.mt_plan.specs.Plan.{steps_of}
-use Rattle.mt_locate.specs.Misses.{misses_of}
 use Rattle.mt_locate.specs.Explanations.{accesses_of}
 use Rattle.mt_locate.proofs.Spans.{Met, Met-none, Met-more, Met-differs, Met-all, Answered, step_answered, counted, no_difference, difference, length-accesses}
 use Rattle.mt_locate.proofs.explain.misses_exactly.Goals as goal

@@ -1,4 +1,4 @@
-use Rattle.std.proofs.Common.{◌≡◌, ◌<◌, ◌+◌, ◌∷◌, [], ℕ, List, Option, None, length, ap, ◌∙◌, arith}
+use Rattle.std.proofs.Common.{◌<◌, ◌∷◌, [], ℕ, List, Option, length, ap, ◌∙◌, arith}
 use Rattle.mt_fault.specs.History.{Write}
 use Rattle.mt_fault.specs.Faulty.{words_after}
 use Rattle.mt_fault.specs.Memory.{Memory, after_access}
