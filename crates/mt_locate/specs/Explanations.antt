@@ -32,5 +32,6 @@ pub record HoldsInitial (probe : Probe) (words : List ℕ) : Type 0 where
 -- what is missed there, at the slice's own addresses and under the fault as it is, is what is missed on the words that stand for the slice
 abbrev pub MissesAreThoseOfTheMemory : Type 0
 MissesAreThoseOfTheMemory =
-    (probe : Probe) (words : List ℕ) (fault : Fault) → IsAccepted probe.alg → IsFaultOfSlice probe.width probe.first probe.n fault → HoldsInitial probe words
+    (probe : Probe) (words : List ℕ) (fault : Fault)
+    → IsAccepted probe.alg → IsFaultOfSlice probe.width probe.first probe.n fault → HoldsInitial probe words
     → misses_of (Some fault) (first_words fault words) (accesses probe.width probe.alg probe.background probe.first probe.n) ≡ misses_under probe fault
