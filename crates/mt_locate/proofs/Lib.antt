@@ -1,0 +1,3 @@
+pub mod Spans
+pub mod Resets
+pub mod Raised

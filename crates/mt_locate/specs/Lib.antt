@@ -1,0 +1,4 @@
+pub mod Probes
+pub mod Moved
+pub mod Misses
+pub mod Explanations

@@ -1,0 +1,20 @@
+//! Laws of faults of a slice.
+
+ghost use Rattle.mt_locate.specs.Explanations.{MissesAreThoseOfTheMemory};
+ghost use Rattle.mt_locate.specs.Moved.{FaultsStayWellPlaced};
+
+use mt_plan::plans_are_steady;
+
+/// A fault that lies inside a slice of n words lies, moved down, in n words.
+pub fn faults_of_a_slice_stay_well_placed()
+    ensures { FaultsStayWellPlaced }
+{}
+
+/// What is missed on the words that stand for a slice is what is missed in every memory that has the slice with `initial`
+/// in each of its words, whatever its other words are.
+pub fn misses_are_those_of_the_memory()
+    ensures { MissesAreThoseOfTheMemory }
+{
+    plans_are_steady();
+    faults_of_a_slice_stay_well_placed();
+}
