@@ -62,7 +62,7 @@ impl Cells {
         ensures fits { Fits self.old.width result }
         ensures sound { IsSound self.new }
     {
-        read_word(&self.words, self.fault, addr)
+        read_word(&self.words, &self.fault, addr)
     }
 
     /// Writes a word, under the fault that is there.
@@ -74,7 +74,7 @@ impl Cells {
         ensures size { length self.new.words ≡ length self.old.words }
         ensures sound { IsSound self.new }
     {
-        write_word(&mut self.words, self.fault, addr, word);
+        write_word(&mut self.words, &self.fault, addr, word);
     }
 
     /// Puts a fault there, where it is in range, its two addresses differ and none is there; the first of these that

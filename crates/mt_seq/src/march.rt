@@ -31,6 +31,7 @@ fn make_op<P: Port>(port: &mut P, addr: u32, plain: u64, flipped: u64, op: Op) -
 }
 
 // All operations of an element on one cell, whatever they answer.
+#[inline(always)]
 fn march_cell<P: Port>(port: &mut P, addr: u32, plain: u64, flipped: u64, ops: &[Op]) -> bool
     requires held { (P.state port.old).held ≡ true }
     requires inside { addr < (P.state port.old).shape.ram }
