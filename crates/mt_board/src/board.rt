@@ -117,7 +117,8 @@ impl SimBoard {
         }
     }
 
-    // Writes a RAM word.
+    // Writes a RAM word. A call of it is shorter than the place that it would take in each loop of a test.
+    #[inline(never)]
     fn store(&mut self, addr: u32, word: u64)
         requires addr { addr < (sim_state self.old).shape.ram }
         requires word { Fits (sim_state self.old).shape.width word }

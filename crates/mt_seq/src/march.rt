@@ -14,6 +14,7 @@ use mt_port::Port;
 use mt_word::{Width, flip};
 
 // One operation on one cell.
+#[inline(always)]
 fn make_op<P: Port>(port: &mut P, addr: u32, plain: u64, flipped: u64, op: Op) -> bool
     requires held { (P.state port.old).held ≡ true }
     requires inside { addr < (P.state port.old).shape.ram }
