@@ -5,8 +5,8 @@ use Rattle.std.specs.List.{list_any}
 use Rattle.std.proofs.lemmas.Bool.Decides.{nat_tests}
 use Rattle.std.proofs.lemmas.List.Sorted.{list_any-IsPermutation, IsPermutation-reverse}
 use Rattle.mt_port.specs.declared.request.Request.{Request}
-use Rattle.mt_port.specs.Board.{is_urgent_due}
-use Rattle.mt_board.specs.Requests.{lesser, with_request, is_due, least_urgent}
+use Rattle.mt_port.specs.Board.{is_urgent_due, is_due}
+use Rattle.mt_board.specs.Requests.{lesser, with_request, least_urgent}
 
 le_min : (m n count : ℕ) → nat_le (min m n) count ≡ (nat_le m count || nat_le n count)
 le_min m n count = grind (arith, nat_tests)

@@ -1,5 +1,5 @@
 -- The requests that a board keeps.
-use Rattle.std.specs.Prelude.{ℕ, Bool, false, nat_le, List, if◌then◌else◌, fold, min, Option, Some, None}
+use Rattle.std.specs.Prelude.{ℕ, List, if◌then◌else◌, fold, min, Option, Some, None}
 use Rattle.mt_port.specs.declared.request.Request.{Request}
 
 -- the lesser of an offset that may not be there and another one
@@ -14,8 +14,3 @@ with_request least r = if r.urgent then lesser least r.offset else least
 -- the least offset of an urgent request, where there is one
 abbrev pub least_urgent : List Request → Option ℕ
 least_urgent requests = fold with_request None requests
-
--- whether it is due
-abbrev pub is_due : ℕ → Option ℕ → Bool
-is_due count None = false
-is_due count (Some least) = nat_le least count

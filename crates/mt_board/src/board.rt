@@ -2,7 +2,8 @@
 
 ghost use Rattle.std.specs.Prelude.{◌≡◌, ◌<◌, ◌≤◌, ◌+◌, ◌-◌, ◌^◌, ℕ, length, slice_index, slice_set, reverse, Some, None, OnOk, OnErr, true, false, [], ◌∷◌, ◌++◌};
 ghost use Rattle.std.specs.Option.{option_copied};
-ghost use Rattle.mt_board.specs.Requests.{is_due, least_urgent};
+ghost use Rattle.mt_port.specs.Board.{is_due};
+ghost use Rattle.mt_board.specs.Requests.{least_urgent};
 
 use crate::stores::Stores;
 use arrayvec::ArrayVec;
@@ -225,6 +226,10 @@ impl Port for SimBoard {
 
     fn urgent_due(&self) -> bool {
         is_due(self.urgent, self.count)
+    }
+
+    fn next_urgent(&self) -> Option<u32> {
+        self.urgent
     }
 
     fn made(&self) -> u32 {

@@ -147,6 +147,10 @@ impl Port for PlainBoard {
         false
     }
 
+    fn next_urgent(&self) -> Option<u32> {
+        None
+    }
+
     fn made(&self) -> u32 {
         self.count
     }
