@@ -8,7 +8,9 @@ use Rattle.mt_blocks.specs.declared.span.Span.{Span}
 use Rattle.mt_blocks.specs.declared.pass.Position.{Position}
 use Rattle.mt_blocks.specs.Slices.{Piece, span_len, span_at, ends_block, from_place, from_next, piece_at, next_of, or_start, test_from, next_in, test_rest, AreSpans, IsValid}
 use Rattle.mt_blocks.specs.Groups.{group_len}
-use Rattle.mt_blocks.proofs.Passes.{from_step, next_valid, block_step, block_end}
+use Rattle.mt_blocks.specs.Laws.{word_count, PassesGoOn, PassesBegin, BlocksBegin}
+use Rattle.mt_blocks.proofs.Passes.{from_step, from_first, next_valid, block_step, block_end, block_first}
+use Rattle.mt_blocks.proofs.Words.{word_count-block, word_count-pass}
 
 -- the first slice of a block
 pub start_valid : (K : ℕ) (spans : List Span) (i : ℕ) → AreSpans K spans → i < length spans → IsValid K spans (record { block = i; offset = 0 })
@@ -96,3 +98,27 @@ next_in-valid whole K spans p q ok valid = of (not whole && ends_block K (span_a
     of : (b : Bool) → cond b None (next_of K spans p) ≡ Some q → IsValid K spans q
     of true e = cc
     of false e = next_valid K spans p q ok valid e
+
+-- a pass and a test from a position on
+pub goes_on : PassesGoOn
+goes_on K spans p ok valid = record {
+  pass = from_step K spans p ok valid;
+  test = λ whole. test_split whole K spans p ok valid;
+  next = λ whole q. next_in-valid whole K spans p q ok valid;
+  again = or_start-valid K spans p ok valid;
+}
+
+-- where they begin
+pub pass_begins : PassesBegin
+pass_begins K spans ok =
+    let few = word_count-pass K 0 spans ok.some ok.ordered ok.limit in
+    (from_first K spans 0 ok.some, omega (arith, few, ok.few))
+
+pub block_begins : BlocksBegin
+block_begins K spans i ok inside =
+    let whole = word_count-block K i (span_at spans i) ok.some (ok.ordered i inside) in
+    record {
+      valid = start_valid K spans i ok inside;
+      block = block_first K spans i ok.some;
+      few = omega (arith, whole, ok.limit i inside);
+    }

@@ -36,7 +36,7 @@ abbrev pub flash_block_at : List FlashBlock → ℕ → FlashBlock
 flash_block_at blocks i = slice_index_or blocks i no_flash_block
 
 abbrev pub no_set : ParamSet
-no_set = record { alg = Checkerboard; background = 0; atomic = 1; cells = 1; blocks = [] }
+no_set = record { alg = Checkerboard; background = 0; atomic = 1; cells = 1; blocks = []; retries = 0 }
 
 abbrev pub set_at : List ParamSet → ℕ → ParamSet
 set_at sets i = slice_index_or sets i no_set
@@ -52,7 +52,8 @@ pub record IsAcceptedBlock (shape : Shape) (b : Block) : Type 0 where
   pub fill : Fits shape.width b.fill
 
 -- A parameter set: an accepted march, no destructive block for the transparent test, a background that fits, 1 to 64
--- blocks of which no two share a word, slices of 1 to 64 words, and a tick of at least one slice and at most 65,536 words.
+-- blocks of which no two share a word, slices of 1 to 64 words, a tick of at least one slice and at most 65,536 words, and
+-- at most 16 tries of a slice that are broken off.
 pub record IsAcceptedSet (shape : Shape) (set : ParamSet) : Type 0 where
   pub accepted : IsAccepted set.alg
   pub kept : is_transparent set.alg ≡ true → All (λ (b : Block). b.policy ≡ NonDestructive) set.blocks
@@ -65,6 +66,7 @@ pub record IsAcceptedSet (shape : Shape) (set : ParamSet) : Type 0 where
   pub atomic_small : set.atomic ≤ 64
   pub cells_low : set.atomic ≤ set.cells
   pub cells_high : set.cells ≤ 65536
+  pub retries : set.retries ≤ 16
 
 -- A configuration of RamTst for a shape: sizes within the limits, and 1 to 16 accepted sets.
 pub record IsAcceptedRam (shape : Shape) (config : RamConfig) : Type 0 where

@@ -1,9 +1,10 @@
 -- What slices, passes and groups are made of.
-use Rattle.std.specs.Prelude.{ℕ, suc, ◌+◌, ◌<◌, ◌≤◌, ◌≡◌, false, List, [], ◌∷◌, ◌++◌, length, take, All}
+use Rattle.std.specs.Prelude.{ℕ, suc, ◌+◌, ◌*◌, ◌<◌, ◌≤◌, ◌≡◌, Bool, false, List, [], ◌∷◌, ◌++◌, length, take, All, Option, Some}
 use Rattle.std.specs.List.{range_with_len}
 use Rattle.mt_seq.specs.declared.sequence.Slice.{Slice}
 use Rattle.mt_blocks.specs.declared.span.Span.{Span}
-use Rattle.mt_blocks.specs.Slices.{Piece, span_len, pieces, pass}
+use Rattle.mt_blocks.specs.declared.pass.Position.{Position}
+use Rattle.mt_blocks.specs.Slices.{Piece, span_at, span_len, piece_at, pieces, pass, from_place, from_next, next_of, or_start, test_from, test_rest, next_in, AreSpans, IsValid}
 use Rattle.mt_blocks.specs.Groups.{group_len, groups}
 
 -- the addresses of the words of a slice, and of slices
@@ -50,3 +51,34 @@ GroupsAreLongest =
 -- the groups of a pass, one after another, are the pass
 abbrev pub GroupsAreThePass : Type 0
 GroupsAreThePass = (K N : ℕ) (spans : List Span) → K ≤ N → joined (groups N (pass K spans)) ≡ pass K spans
+
+-- where the first slice of a block stands
+abbrev pub block_start : ℕ → Position
+block_start i = record { block = i; offset = 0 }
+
+-- What holds of a pass and of a test from a position on.
+pub record GoesOn (K : ℕ) (spans : List Span) (p : Position) : Type 0 where
+  -- the slices of the pass are the one there, and then those from the next position on
+  pub pass : from_place K spans p ≡ piece_at K spans p ∷ from_next K spans (next_of K spans p)
+  -- so are those of a test, which may end with its block
+  pub test : (whole : Bool) → test_from whole K spans p ≡ piece_at K spans p ∷ test_rest whole K spans (next_in whole K spans p)
+  -- the next position is that of a slice, also where the pass begins again
+  pub next : (whole : Bool) (q : Position) → next_in whole K spans p ≡ Some q → IsValid K spans q
+  pub again : IsValid K spans (or_start (next_of K spans p))
+
+abbrev pub PassesGoOn : Type 0
+PassesGoOn = (K : ℕ) (spans : List Span) (p : Position) → AreSpans K spans → IsValid K spans p → GoesOn K spans p
+
+-- What holds where a block begins.
+pub record Begins (K : ℕ) (spans : List Span) (i : ℕ) : Type 0 where
+  pub valid : IsValid K spans (block_start i)
+  pub block : test_from false K spans (block_start i) ≡ pieces K i (span_at spans i)
+  -- a block has at most 65,536 words
+  pub few : word_count (pieces K i (span_at spans i)) ≤ 65536
+
+abbrev pub BlocksBegin : Type 0
+BlocksBegin = (K : ℕ) (spans : List Span) (i : ℕ) → AreSpans K spans → i < length spans → Begins K spans i
+
+-- a pass begins with the first block, and has at most 64 times 65,536 words
+abbrev pub PassesBegin : Type 0
+PassesBegin = (K : ℕ) (spans : List Span) → AreSpans K spans → (from_place K spans (block_start 0) ≡ pass K spans) × (word_count (pass K spans) ≤ 65536 * 64)

@@ -40,7 +40,8 @@ impl HasSpan for FlashBlock {
 }
 
 /// A parameter set: the algorithm, the background word of the cells, the greatest number of words of a slice, the
-/// greatest number of words that one tick tests, and the blocks.
+/// greatest number of words that one tick tests, the blocks, and how often urgent requests may break the test of a slice
+/// off in one event.
 #[derive(Drop)]
 pub struct ParamSet {
     pub alg: Algorithm,
@@ -48,6 +49,7 @@ pub struct ParamSet {
     pub atomic: u32,
     pub cells: u32,
     pub blocks: List<Block>,
+    pub retries: u32,
 }
 
 /// The parameter sets of RamTst.

@@ -1,6 +1,6 @@
 //! Laws of slices and groups.
 
-ghost use Rattle.mt_blocks.specs.Laws.{SlicesAreTheBlock, OnlyTheLastIsShorter, GroupsFit, GroupsAreLongest, GroupsAreThePass};
+ghost use Rattle.mt_blocks.specs.Laws.{SlicesAreTheBlock, OnlyTheLastIsShorter, GroupsFit, GroupsAreLongest, GroupsAreThePass, PassesGoOn, BlocksBegin, PassesBegin};
 
 /// The slices of a block are the block, in order, each word once, and no slice but the last is shorter than the others.
 pub fn slices_are_the_block()
@@ -17,4 +17,16 @@ pub fn groups_are_longest()
 /// The groups of a pass, one after another, are the pass.
 pub fn groups_are_the_pass()
     ensures { GroupsAreThePass }
+{}
+
+/// From a position on, the slices of a pass are the one there, and then those from the next position on; so are those of a test
+/// of a block.
+pub fn passes_go_on()
+    ensures { PassesGoOn }
+{}
+
+/// Where a pass and the test of a block begin, and how many words they have.
+pub fn passes_begin()
+    ensures pass { PassesBegin }
+    ensures block { BlocksBegin }
 {}

@@ -9,7 +9,9 @@ mod pass;
 mod span;
 
 pub use config::{Block, FlashBlock, FlsConfig, ParamSet, RamConfig};
-pub use laws::{groups_are_longest, groups_are_the_pass, slices_are_the_block};
+pub use laws::{
+    groups_are_longest, groups_are_the_pass, passes_begin, passes_go_on, slices_are_the_block,
+};
 pub use list::List;
 pub use pass::{
     Position, first_place, following, group_len, is_last, next_of_test, or_start, slice_at,

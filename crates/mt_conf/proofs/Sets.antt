@@ -190,4 +190,5 @@ set_accepted shape ram s e few same facts =
       atomic_small = sizes.1;
       cells_low = sizes.2;
       cells_high = sizes.3;
+      retries = omega arith;
     }

@@ -124,6 +124,7 @@ set_of width s = record {
   atomic = small (number_at (codes "atomic") s);
   cells = small (number_at (codes "cells") s);
   blocks = map (λ d. block_of width (fields d)) (array_at (codes "block") s);
+  retries = 2;
 }
 
 -- the flash configuration by the entries of `fls`, and its defaults where there is none

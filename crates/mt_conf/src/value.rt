@@ -22,6 +22,9 @@ use mt_word::Width;
 use std::alloc::{AllocError, Global};
 use toml::{Table, Value};
 
+/// How often urgent requests may break the test of a slice off in one event.
+const RETRIES: u32 = 2;
+
 fn hex_digit(byte: u8) -> u64
     requires { is_hex byte ≡ true }
     ensures value { result ≡ hex_digit byte }
@@ -159,6 +162,7 @@ fn set_in(alloc: Global, width: Width, table: &Table) -> Result<ParamSet, AllocE
         atomic: small_at(table, "atomic"),
         cells: small_at(table, "cells"),
         blocks: List::new(blocks),
+        retries: RETRIES,
     })
 }
 

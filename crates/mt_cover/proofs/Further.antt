@@ -70,11 +70,11 @@ module _ (laws : Laws) where
   kept_caught s size cell vic false w at lt bit =
       covered_on_bit laws mats s (marches laws mats_plus) (CannotRise vic) no_rise vic false (caught_at no_rise (mats (1 ∷ [])) false false mats-rise)
       (λ v at_v. let e : v ≡ cell = omega arith in ap (λ (x : ℕ). has_bit (s.back x) vic.bit) e ∙ bit)
-      (rise_ruled laws s size vic w (record { from = omega arith; below = omega arith }, tt))
+      (rise_ruled laws s size vic (record { inside = (w, tt); apart = tt }) (record { from = omega arith; below = omega arith }, tt))
   kept_caught s size cell vic true w at lt bit =
       covered_on_bit laws mats s (marches laws mats_plus) (CannotFall vic) no_fall vic true (caught_at no_fall (mats (1 ∷ [])) true true mats-fall)
       (λ v at_v. let e : v ≡ cell = omega arith in ap (λ (x : ℕ). has_bit (s.back x) vic.bit) e ∙ bit)
-      (fall_ruled laws s size vic w (record { from = omega arith; below = omega arith }, tt))
+      (fall_ruled laws s size vic (record { inside = (w, tt); apart = tt }) (record { from = omega arith; below = omega arith }, tt))
 
   pub one_direction : MatsCatchesOneDirection
   one_direction march width size first n back cell vic same w at lt fits =

@@ -19,7 +19,7 @@ first_bit width = omega arith
 
 module _ (laws : Laws) (s : Slice) (size : ℕ) where
   bit_in : (spot : Spot) → IsWithin s.first s.n spot.word → IsSpot s.width size spot → IsBit s spot
-  bit_in spot i w = record { within = i; bit = w.bit }
+  bit_in spot i w = record { within = i; bit = w.1.0 }
 
   word_in : (a : ℕ) → IsWithin s.first s.n a → IsBit s (spot a)
   word_in a i = record { within = i; bit = first_bit s.width }
@@ -31,8 +31,8 @@ module _ (laws : Laws) (s : Slice) (size : ℕ) where
     vic_bit = λ words h. b;
     model = stuck_model laws vic b;
     spots = stuck_spots vic b;
-    agg_in = bit_in vic i.0 w;
-    vic_in = bit_in vic i.0 w;
+    agg_in = bit_in vic i.0 w.inside.0;
+    vic_in = bit_in vic i.0 w.inside.0;
   }
 
   pub rise_ruled : (vic : Spot) → IsWellPlaced s.width size (CannotRise vic) → IsInside (CannotRise vic) s.first s.n
@@ -42,8 +42,8 @@ module _ (laws : Laws) (s : Slice) (size : ℕ) where
     vic_bit = bit_after (CannotRise vic);
     model = rise_model laws vic;
     spots = rise_spots vic;
-    agg_in = bit_in vic i.0 w;
-    vic_in = bit_in vic i.0 w;
+    agg_in = bit_in vic i.0 w.inside.0;
+    vic_in = bit_in vic i.0 w.inside.0;
   }
 
   pub fall_ruled : (vic : Spot) → IsWellPlaced s.width size (CannotFall vic) → IsInside (CannotFall vic) s.first s.n
@@ -53,8 +53,8 @@ module _ (laws : Laws) (s : Slice) (size : ℕ) where
     vic_bit = bit_after (CannotFall vic);
     model = fall_model laws vic;
     spots = fall_spots vic;
-    agg_in = bit_in vic i.0 w;
-    vic_in = bit_in vic i.0 w;
+    agg_in = bit_in vic i.0 w.inside.0;
+    vic_in = bit_in vic i.0 w.inside.0;
   }
 
   pub none_ruled : (addr seen : ℕ) → IsInside (NoCell addr seen) s.first s.n
@@ -75,8 +75,8 @@ module _ (laws : Laws) (s : Slice) (size : ℕ) where
     vic_bit = bit_after (Invert agg d vic);
     model = λ words. invert_model laws agg vic d words w.apart;
     spots = invert_spots agg vic d;
-    agg_in = bit_in agg i.0 w.agg_in;
-    vic_in = bit_in vic i.1.0 w.vic_in;
+    agg_in = bit_in agg i.0 w.inside.0;
+    vic_in = bit_in vic i.1.0 w.inside.1.0;
   }
 
   pub force_ruled : (agg vic : Spot) (d b : Bool) → IsWellPlaced s.width size (Force agg d vic b) → IsInside (Force agg d vic b) s.first s.n
@@ -86,8 +86,8 @@ module _ (laws : Laws) (s : Slice) (size : ℕ) where
     vic_bit = bit_after (Force agg d vic b);
     model = λ words. force_model laws agg vic d b words w.apart;
     spots = force_spots agg vic d b;
-    agg_in = bit_in agg i.0 w.agg_in;
-    vic_in = bit_in vic i.1.0 w.vic_in;
+    agg_in = bit_in agg i.0 w.inside.0;
+    vic_in = bit_in vic i.1.0 w.inside.1.0;
   }
 
   pub state_ruled : (agg vic : Spot) (d b : Bool) → IsWellPlaced s.width size (State agg d vic b) → IsInside (State agg d vic b) s.first s.n
@@ -97,8 +97,8 @@ module _ (laws : Laws) (s : Slice) (size : ℕ) where
     vic_bit = bit_after (State agg d vic b);
     model = λ words. state_model laws agg vic d b words w.apart;
     spots = state_spots agg vic d b;
-    agg_in = bit_in agg i.0 w.agg_in;
-    vic_in = bit_in vic i.1.0 w.vic_in;
+    agg_in = bit_in agg i.0 w.inside.0;
+    vic_in = bit_in vic i.1.0 w.inside.1.0;
   }
 
   pub also_ruled : (addr other : ℕ) (wired : Bool) → IsWellPlaced s.width size (Also addr other wired) → IsInside (Also addr other wired) s.first s.n

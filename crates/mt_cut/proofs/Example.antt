@@ -33,6 +33,7 @@ checkerboard_accepted = record {
     atomic_small = omega arith;
     cells_low = omega arith;
     cells_high = omega arith;
+    retries = omega arith;
   };
 }
 
@@ -54,5 +55,6 @@ one_block_accepted alg ok =
         atomic_small = omega arith;
         cells_low = omega arith;
         cells_high = omega arith;
+        retries = omega arith;
       };
     }

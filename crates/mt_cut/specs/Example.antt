@@ -19,8 +19,8 @@ abbrev pub kept_block : Block
 kept_block = record { span = record { first = 4; last = 9 }; policy = NonDestructive; fill = 0 }
 
 abbrev pub checkerboard_set : ParamSet
-checkerboard_set = record { alg = Checkerboard; background = 0; atomic = 4; cells = 8; blocks = filled_block ∷ kept_block ∷ [] }
+checkerboard_set = record { alg = Checkerboard; background = 0; atomic = 4; cells = 8; blocks = filled_block ∷ kept_block ∷ []; retries = 2 }
 
 -- one block that keeps its words, tested by some algorithm
 abbrev pub one_block_set : Algorithm → ParamSet
-one_block_set alg = record { alg = alg; background = 0; atomic = 4; cells = 8; blocks = record kept_block { span = record { first = 0; last = 9 } } ∷ [] }
+one_block_set alg = record { alg = alg; background = 0; atomic = 4; cells = 8; blocks = record kept_block { span = record { first = 0; last = 9 } } ∷ []; retries = 2 }

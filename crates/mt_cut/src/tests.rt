@@ -27,6 +27,7 @@ fn one_block(alloc: Global, alg: Algorithm) -> Result<ParamSet, AllocError>
         atomic: 4,
         cells: 8,
         blocks: List::new(vec![in alloc; block]?),
+        retries: 2,
     })
 }
 
@@ -50,6 +51,7 @@ fn two_blocks(alloc: Global) -> Result<ParamSet, AllocError>
         atomic: 4,
         cells: 8,
         blocks: List::new(vec![in alloc; filled, kept]?),
+        retries: 2,
     })
 }
 

@@ -35,17 +35,17 @@ decided fault b words a x t s l e =
 pub write_forward : (width : Width) (fault : Fault) (words : List ℕ) (a x : ℕ) → IsWellPlaced width (length words) fault → words_after (Some fault) words [] ≡ words → a < length words
     → words_after (Some fault) words (Write a x ∷ []) ≡ written fault words a x
 unfolding words_after stored stored_under
-write_forward width (StuckAt vic value) words a x p s l = by_bit vic value value words a x l p.word refl
+write_forward width (StuckAt vic value) words a x p s l = by_bit vic value value words a x l p.inside.0.0 refl
 write_forward width (CannotRise vic) words a x p s l =
-    by_bit vic _ _ words a x l p.word (decided (CannotRise vic) _ words a x refl s p.word (victim_bit vic _ (plain words (Write a x ∷ []))))
+    by_bit vic _ _ words a x l p.inside.0.0 (decided (CannotRise vic) _ words a x refl s p.inside.0.0 (victim_bit vic _ (plain words (Write a x ∷ []))))
 write_forward width (CannotFall vic) words a x p s l =
-    by_bit vic _ _ words a x l p.word (decided (CannotFall vic) _ words a x refl s p.word (victim_bit vic _ (plain words (Write a x ∷ []))))
+    by_bit vic _ _ words a x l p.inside.0.0 (decided (CannotFall vic) _ words a x refl s p.inside.0.0 (victim_bit vic _ (plain words (Write a x ∷ []))))
 write_forward width (Invert agg rise vic) words a x p s l =
-    by_bit vic _ _ words a x l p.vic_in.word (decided (Invert agg rise vic) _ words a x refl s p.vic_in.word (victim_bit vic _ (plain words (Write a x ∷ []))))
+    by_bit vic _ _ words a x l p.inside.1.0.0 (decided (Invert agg rise vic) _ words a x refl s p.inside.1.0.0 (victim_bit vic _ (plain words (Write a x ∷ []))))
 write_forward width (Force agg rise vic value) words a x p s l =
-    by_bit vic _ _ words a x l p.vic_in.word (decided (Force agg rise vic value) _ words a x refl s p.vic_in.word (victim_bit vic _ (plain words (Write a x ∷ []))))
+    by_bit vic _ _ words a x l p.inside.1.0.0 (decided (Force agg rise vic value) _ words a x refl s p.inside.1.0.0 (victim_bit vic _ (plain words (Write a x ∷ []))))
 write_forward width (State agg holds vic value) words a x p s l =
-    by_bit vic _ _ words a x l p.vic_in.word (decided (State agg holds vic value) _ words a x refl s p.vic_in.word (victim_bit vic _ (plain words (Write a x ∷ []))))
+    by_bit vic _ _ words a x l p.inside.1.0.0 (decided (State agg holds vic value) _ words a x refl s p.inside.1.0.0 (victim_bit vic _ (plain words (Write a x ∷ []))))
 write_forward width (NoCell addr seen) words a x p s l = none (eqb a addr)
   where
     none : (q : Bool) → map (plain words (map (moved (Write a x)) (cond q [] (a ∷ [])) ++ [])) (range_with_len 0 (length words)) ≡ cond q words (set words a x)
@@ -54,12 +54,12 @@ write_forward width (NoCell addr seen) words a x p s l = none (eqb a addr)
 write_forward width (Also addr other wired_and) words a x p s l = both (eqb a addr)
   where
     both : (q : Bool) → map (plain words (map (moved (Write a x)) (cond q (addr ∷ other ∷ []) (a ∷ [])) ++ [])) (range_with_len 0 (length words)) ≡ cond q (set (set words addr x) other x) (set words a x)
-    both true = sym (plain_twice words addr other x p.addr_in p.other_in)
+    both true = sym (plain_twice words addr other x p.inside.0.0 p.inside.1.0.0)
     both false = sym (plain_set words a x l)
 write_forward width (Instead addr other) words a x p s l = else (eqb a addr)
   where
     else : (q : Bool) → map (plain words (map (moved (Write a x)) (cond q (other ∷ []) (a ∷ [])) ++ [])) (range_with_len 0 (length words)) ≡ cond q (set words other x) (set words a x)
-    else true = sym (plain_set words other x p.other_in)
+    else true = sym (plain_set words other x p.inside.1.0.0)
     else false = sym (plain_set words a x l)
 
 -- one access of words in which the rule holds
@@ -118,15 +118,15 @@ under_fits width (CannotFall vic) words p f k i = f k i
 under_fits width (Invert agg rise vic) words p f k i = f k i
 under_fits width (Force agg rise vic value) words p f k i = f k i
 under_fits width (State agg holds vic value) words p f k i = f k i
-under_fits width (NoCell addr seen) words p f k i = by_test width (eqb k addr) _ _ p.1 (f k i)
+under_fits width (NoCell addr seen) words p f k i = by_test width (eqb k addr) _ _ p.inside.1.0.0 (f k i)
 under_fits width (Also addr other wired_and) words p f k i =
-    let one : Fits width (get_or words addr 0) = f addr p.addr_in in
-    let two : Fits width (get_or words other 0) = f other p.other_in in
+    let one : Fits width (get_or words addr 0) = f addr p.inside.0.0 in
+    let two : Fits width (get_or words other 0) = f other p.inside.1.0.0 in
     let low : bit_and (get_or words addr 0) (get_or words other 0) ≤ get_or words addr 0 = and_le_l _ _ in
     by_test width (eqb k addr) _ _
     (by_test width wired_and _ _ (omega arith) (or_lt (width_bits width) (get_or words addr 0) (get_or words other 0) one two))
     (f k i)
-under_fits width (Instead addr other) words p f k i = by_test width (eqb k addr) _ _ (f other p.other_in) (f k i)
+under_fits width (Instead addr other) words p f k i = by_test width (eqb k addr) _ _ (f other p.inside.1.0.0) (f k i)
 
 pub read_fits : (width : Width) (fault : Option Fault) (words : List ℕ) → IsPlaced width (length words) fault → FitAll width words → (k : ℕ) → k < length words → Fits width (read_of fault words k)
 read_fits width None words p f k i = f k i

@@ -1,9 +1,10 @@
 -- Where a fault lies, as tests and as facts.
-use Rattle.std.proofs.Common.{ℕ, ◌≡◌, ◌==◌, true, ◌&&◌, ◌||◌, not, rules, ◌↔◌, subst, sym, inl, inr}
-use Rattle.std.proofs.lemmas.Bool.{eqb-true, ne_eqb, cases_eq}
+use Rattle.std.proofs.Common.{ℕ, ◌≡◌, ◌==◌, true, ◌&&◌, not, List, [], ◌∷◌, rules, ◌↔◌, subst, sym, inl, inr}
+use Rattle.std.proofs.lemmas.Bool.{ne_eqb, cases_eq}
 use Rattle.std.specs.Prelude.{IsTrue}
+use Rattle.std.specs.List.{list_any, AllByRecursion}
 use Rattle.mt_word.specs.declared.Width.{Width}
-use Rattle.mt_fault.specs.Placement.{IsWithin, IsInside, is_inside, in_range, same_word, IsWellPlaced}
+use Rattle.mt_fault.specs.Placement.{IsWithin, IsInside, is_inside, in_range, same_word, IsWellPlaced, addresses}
 use Rattle.mt_fault.specs.Projection.{names}
 use Rattle.mt_fault.specs.declared.fault.Fault.{Fault}
 use Rattle.mt_fault.specs.declared.fault.Fault.TheVariants.{StuckAt, CannotRise, CannotFall, Invert, Force, State, NoCell, Also, Instead}
@@ -30,23 +31,13 @@ inside first n (NoCell addr seen) = search rules
 inside first n (Also addr other wired_and) = search rules
 inside first n (Instead addr other) = search rules
 
--- the address that is one, or one of two
-one : {first n : ℕ} (a b : ℕ) → (a == b) ≡ true → IsWithin first n b → IsWithin first n a
-one {first} {n} a b e w = subst (IsWithin first n) (sym (eqb-true a b e)) w
-
-two : {first n : ℕ} (a b c : ℕ) → (a == b || a == c) ≡ true → IsWithin first n b → IsWithin first n c → IsWithin first n a
-two {first} {n} a b c e v w = elim (cases_eq a b) [
-  | inl same ↦ subst (IsWithin first n) (sym same) v
-  | inr other ↦ one a c (rw (ne_eqb a b other) at e) w
+-- an address that is one of a list
+member_within : (first n : ℕ) (l : List ℕ) → AllByRecursion (IsWithin first n) l → (a : ℕ) → list_any (λ b. a == b) l ≡ true → IsWithin first n a
+member_within first n [] w a e = cc
+member_within first n (b ∷ l) w a e = elim (cases_eq a b) [
+  | inl same ↦ subst (IsWithin first n) (sym same) w.0
+  | inr other ↦ member_within first n l w.1 a (rw (ne_eqb a b other) at e)
 ]
 
 pub address_within : (first n : ℕ) (fault : Fault) → IsInside fault first n → (a : ℕ) → names fault a ≡ true → IsWithin first n a
-address_within first n (StuckAt vic value) w a e = one a vic.word e w.0
-address_within first n (CannotRise vic) w a e = one a vic.word e w.0
-address_within first n (CannotFall vic) w a e = one a vic.word e w.0
-address_within first n (Invert agg rise vic) w a e = two a agg.word vic.word e w.0 w.1.0
-address_within first n (Force agg rise vic value) w a e = two a agg.word vic.word e w.0 w.1.0
-address_within first n (State agg holds vic value) w a e = two a agg.word vic.word e w.0 w.1.0
-address_within first n (NoCell addr seen) w a e = one a addr e w.0
-address_within first n (Also addr other wired_and) w a e = two a addr other e w.0 w.1.0
-address_within first n (Instead addr other) w a e = two a addr other e w.0 w.1.0
+address_within first n fault w a e = member_within first n (addresses fault) w a e

@@ -151,23 +151,23 @@ stored_up : (width : Width) (d n : ℕ) (big small : List ℕ) (fault : Fault) (
 unfolding stored_under
 stored_up width d n big small (StuckAt vic value) h a s p l = victim_up d vic value value (plain big (up d h)) (plain small h) a refl (plain_up d big small h a (s a l))
 stored_up width d n big small (CannotRise vic) h a s p l =
-    victim_up d vic _ _ (plain big (up d h)) (plain small h) a (settings_up d (λ x. has_bit x vic.bit) big small h vic.word (s vic.word p.word)) (plain_up d big small h a (s a l))
+    victim_up d vic _ _ (plain big (up d h)) (plain small h) a (settings_up d (λ x. has_bit x vic.bit) big small h vic.word (s vic.word p.inside.0.0)) (plain_up d big small h a (s a l))
 stored_up width d n big small (CannotFall vic) h a s p l =
-    victim_up d vic _ _ (plain big (up d h)) (plain small h) a (ap not (settings_up d (λ x. not (has_bit x vic.bit)) big small h vic.word (s vic.word p.word))) (plain_up d big small h a (s a l))
+    victim_up d vic _ _ (plain big (up d h)) (plain small h) a (ap not (settings_up d (λ x. not (has_bit x vic.bit)) big small h vic.word (s vic.word p.inside.0.0))) (plain_up d big small h a (s a l))
 stored_up width d n big small (Invert agg rise vic) h a s p l =
     victim_up d vic _ _ (plain big (up d h)) (plain small h) a
-    (ap (λ (w : ℕ). same (has_bit w vic.bit) (not (is_odd (named_changes big (spot_up d agg) rise (spot_up d vic) (up d h))))) (plain_up d big small h vic.word (s vic.word p.vic_in.word))
-    ∙ ap (λ (k : ℕ). same (asked small h vic) (not (is_odd k))) (named_up d big small agg rise vic h (s agg.word p.agg_in.word)))
+    (ap (λ (w : ℕ). same (has_bit w vic.bit) (not (is_odd (named_changes big (spot_up d agg) rise (spot_up d vic) (up d h))))) (plain_up d big small h vic.word (s vic.word p.inside.1.0.0))
+    ∙ ap (λ (k : ℕ). same (asked small h vic) (not (is_odd k))) (named_up d big small agg rise vic h (s agg.word p.inside.0.0)))
     (plain_up d big small h a (s a l))
 stored_up width d n big small (Force agg rise vic value) h a s p l =
     victim_up d vic _ _ (plain big (up d h)) (plain small h) a
-    (ap (λ (w : ℕ). cond (eqb (named_changes big (spot_up d agg) rise (spot_up d vic) (up d h)) 0) (has_bit w vic.bit) value) (plain_up d big small h vic.word (s vic.word p.vic_in.word))
-    ∙ ap (λ (k : ℕ). cond (eqb k 0) (asked small h vic) value) (named_up d big small agg rise vic h (s agg.word p.agg_in.word)))
+    (ap (λ (w : ℕ). cond (eqb (named_changes big (spot_up d agg) rise (spot_up d vic) (up d h)) 0) (has_bit w vic.bit) value) (plain_up d big small h vic.word (s vic.word p.inside.1.0.0))
+    ∙ ap (λ (k : ℕ). cond (eqb k 0) (asked small h vic) value) (named_up d big small agg rise vic h (s agg.word p.inside.0.0)))
     (plain_up d big small h a (s a l))
 stored_up width d n big small (State agg holds vic value) h a s p l =
     victim_up d vic _ _ (plain big (up d h)) (plain small h) a
-    (ap (λ (w : ℕ). cond (was_held big (spot_up d agg) holds (spot_up d vic) (up d h)) value (has_bit w vic.bit)) (plain_up d big small h vic.word (s vic.word p.vic_in.word))
-    ∙ ap (λ (k : Bool). cond k value (asked small h vic)) (held_up d big small agg holds vic h (s agg.word p.agg_in.word)))
+    (ap (λ (w : ℕ). cond (was_held big (spot_up d agg) holds (spot_up d vic) (up d h)) value (has_bit w vic.bit)) (plain_up d big small h vic.word (s vic.word p.inside.1.0.0))
+    ∙ ap (λ (k : Bool). cond k value (asked small h vic)) (held_up d big small agg holds vic h (s agg.word p.inside.0.0)))
     (plain_up d big small h a (s a l))
 stored_up width d n big small (NoCell addr seen) h a s p l =
     ap (λ (k : History). plain big k (d + a)) (rerouted_up d (NoCell addr seen) h) ∙ plain_up d big small (rerouted (NoCell addr seen) h) a (s a l)
@@ -189,8 +189,8 @@ read_up d (Force agg rise vic value) p q n a width e placed l = e a l
 read_up d (State agg holds vic value) p q n a width e placed l = e a l
 read_up d (NoCell addr seen) p q n a width e placed l = rw (shift d a addr) (ap (λ (w : ℕ). cond (eqb a addr) seen w) (e a l))
 read_up d (Also addr other wired_and) p q n a width e placed l =
-    rw (shift d a addr, e addr placed.addr_in, e other placed.other_in, e a l) refl
-read_up d (Instead addr other) p q n a width e placed l = rw (shift d a addr, e other placed.other_in, e a l) refl
+    rw (shift d a addr, e addr placed.inside.0.0, e other placed.inside.1.0.0, e a l) refl
+read_up d (Instead addr other) p q n a width e placed l = rw (shift d a addr, e other placed.inside.1.0.0, e a l) refl
 
 answer_up : (width : Width) (d n : ℕ) (big small : List ℕ) (fault : Fault) (h : History) (a : ℕ) → SameBelow d big small n → IsWellPlaced width n fault → a < n
     → answer (Some (fault_up d fault)) big (up d h) (d + a) ≡ answer (Some fault) small h a
@@ -216,17 +216,17 @@ spot_set_up d n big small vic value a s long size inside l =
 
 first_up : (width : Width) (d n : ℕ) (big small : List ℕ) (fault : Fault) → SameBelow d big small n → d + n ≤ length big → length small ≡ n → IsWellPlaced width n fault
     → SameBelow d (first_words (fault_up d fault) big) (first_words fault small) n
-first_up width d n big small (StuckAt vic value) s long size p a l = spot_set_up d n big small vic value a s long size p.word l
+first_up width d n big small (StuckAt vic value) s long size p a l = spot_set_up d n big small vic value a s long size p.inside.0.0 l
 first_up width d n big small (CannotRise vic) s long size p a l = s a l
 first_up width d n big small (CannotFall vic) s long size p a l = s a l
 first_up width d n big small (Invert agg rise vic) s long size p a l = s a l
 first_up width d n big small (Force agg rise vic value) s long size p a l = s a l
 first_up width d n big small (State agg holds vic value) s long size p a l =
-    ap (λ (w : ℕ). get_or (cond (same (has_bit w agg.bit) holds) (set_spot (spot_up d vic) value big) big) (d + a) 0) (s agg.word p.agg_in.word)
+    ap (λ (w : ℕ). get_or (cond (same (has_bit w agg.bit) holds) (set_spot (spot_up d vic) value big) big) (d + a) 0) (s agg.word p.inside.0.0)
     ∙ of (same (has_bit (get_or small agg.word 0) agg.bit) holds)
   where
     of : (q : Bool) → get_or (cond q (set_spot (spot_up d vic) value big) big) (d + a) 0 ≡ get_or (cond q (set_spot vic value small) small) a 0
-    of true = spot_set_up d n big small vic value a s long size p.vic_in.word l
+    of true = spot_set_up d n big small vic value a s long size p.inside.1.0.0 l
     of false = s a l
 first_up width d n big small (NoCell addr seen) s long size p a l = s a l
 first_up width d n big small (Also addr other wired_and) s long size p a l = s a l

@@ -109,6 +109,7 @@ fn example(alloc: Global) -> Result<Ram, AllocError>
         atomic: 4,
         cells: 8,
         blocks: List::new(vec![in alloc; block]?),
+        retries: 2,
     };
     let config = RamConfig {
         sets: List::new(vec![in alloc; set]?),

@@ -146,6 +146,7 @@ fn copied(alloc: Global, set: &ParamSet) -> Result<ParamSet, AllocError>
         atomic: set.atomic,
         cells: set.cells,
         blocks: List::new(blocks),
+        retries: set.retries,
     })
 }
 

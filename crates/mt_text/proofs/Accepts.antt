@@ -119,18 +119,18 @@ spot_word_in shape RamSpot s r h =
     let t = after_test (not (nat_lt s.word shape.ram)) Address (broken_if (not (nat_lt s.bit (width_bits shape.width))) FaultRefused (Ok s)) r h in
     let u = after_test (not (nat_lt s.bit (width_bits shape.width))) FaultRefused (Ok s) r t.1 in
     let same : s ≡ r = cc (u.1) in
-    subst (λ (x : Spot). IsSpot shape.width shape.ram x) same (record { word = below s.word shape.ram t.0; bit = below s.bit (width_bits shape.width) u.0 })
+    subst (λ (x : Spot). IsSpot shape.width shape.ram x) same ((below s.word shape.ram t.0, (below s.bit (width_bits shape.width) u.0, tt)))
 spot_word_in shape (OtherSpot a) s r h =
     let t = after_test (not (nat_lt s.word shape.ram)) Address (broken_if (not (nat_lt s.bit (width_bits shape.width))) FaultRefused (broken_if (s.word == a) FaultRefused (Ok s))) r h in
     let u = after_test (not (nat_lt s.bit (width_bits shape.width))) FaultRefused (broken_if (s.word == a) FaultRefused (Ok s)) r t.1 in
     let v = after_test (s.word == a) FaultRefused (Ok s) r u.1 in
     let same : s ≡ r = cc (v.1) in
-    subst (λ (x : Spot). IsSpot shape.width shape.ram x × (a ≢ x.word)) same (record { word = below s.word shape.ram t.0; bit = below s.bit (width_bits shape.width) u.0 }, other s.word a v.0)
+    subst (λ (x : Spot). IsSpot shape.width shape.ram x × (a ≢ x.word)) same ((below s.word shape.ram t.0, (below s.bit (width_bits shape.width) u.0, tt)), other s.word a v.0)
 spot_word_in shape FlashSpot s r h =
     let t = after_test (not (nat_lt s.word shape.flash)) Address (broken_if (not (nat_lt s.bit (width_bits shape.width))) FaultRefused (Ok s)) r h in
     let u = after_test (not (nat_lt s.bit (width_bits shape.width))) FaultRefused (Ok s) r t.1 in
     let same : s ≡ r = cc (u.1) in
-    subst (λ (x : Spot). IsSpot shape.width shape.flash x) same (record { word = below s.word shape.flash t.0; bit = below s.bit (width_bits shape.width) u.0 })
+    subst (λ (x : Spot). IsSpot shape.width shape.flash x) same ((below s.word shape.flash t.0, (below s.bit (width_bits shape.width) u.0, tt)))
 
 value_in : (shape : Shape) (slot : Slot) (bytes : List ℕ) (n : ℕ) → value_at shape slot bytes ≡ Ok n → IsIn shape slot n
 value_in shape slot bytes n h = word_in shape slot bytes n (of_kind (begins_word bytes) _ Spelling n h)

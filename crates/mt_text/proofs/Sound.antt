@@ -21,22 +21,22 @@ app_ops shape = (λ a h. h, (λ a h x k. (h, k), (λ a h x k. (h, k), (λ a h b 
 pub faults : (shape : Shape) → Every shape (IsWellPlaced shape.width shape.ram) fault
 unfolding fault
 faults shape = (
-  λ v h b k. h,
+  λ v h b k. record { inside = (h, tt); apart = tt },
   (
-    λ v h. h,
+    λ v h. record { inside = (h, tt); apart = tt },
     (
-      λ v h. h,
+      λ v h. record { inside = (h, tt); apart = tt },
       (
-        (λ a h v k. record { agg_in = h; vic_in = k.0; apart = k.1 }, (λ a h v k. record { agg_in = h; vic_in = k.0; apart = k.1 }, tt)),
+        (λ a h v k. record { inside = (h, (k.0, tt)); apart = k.1 }, (λ a h v k. record { inside = (h, (k.0, tt)); apart = k.1 }, tt)),
         (
-          (λ a h v k b i. record { agg_in = h; vic_in = k.0; apart = k.1 }, (λ a h v k b i. record { agg_in = h; vic_in = k.0; apart = k.1 }, tt)),
+          (λ a h v k b i. record { inside = (h, (k.0, tt)); apart = k.1 }, (λ a h v k b i. record { inside = (h, (k.0, tt)); apart = k.1 }, tt)),
           (
-            λ s j a h v k b i. record { agg_in = h; vic_in = k.0; apart = k.1 },
+            λ s j a h v k b i. record { inside = (h, (k.0, tt)); apart = k.1 },
             (
-              λ a h x k. (h, k),
+              λ a h x k. record { inside = ((h, tt), ((k, tt), tt)); apart = tt },
               (
-                λ a h b k. (record { addr_in = h; other_in = k.0; apart = k.1 }, (record { addr_in = h; other_in = k.0; apart = k.1 }, tt)),
-                (λ a h b k. record { addr_in = h; other_in = k.0; apart = k.1 }, tt),
+                λ a h b k. (record { inside = ((h, tt), ((k.0, tt), tt)); apart = k.1 }, (record { inside = ((h, tt), ((k.0, tt), tt)); apart = k.1 }, tt)),
+                (λ a h b k. record { inside = ((h, tt), ((k.0, tt), tt)); apart = k.1 }, tt),
               ),
             ),
           ),

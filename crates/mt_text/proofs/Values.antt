@@ -225,16 +225,16 @@ bit_reads shape true = record { kind = refl; number = refl }
 bit_reads shape false = record { kind = refl; number = refl }
 
 pub spot_small : (width : Width) (size : ℕ) (s : Spot) → size ≤ 65536 → IsSpot width size s → (s.word < 2 ^ 32) × (s.bit < 2 ^ 32)
-spot_small W8 size s l h = let a = h.word in let b = h.bit in (omega arith, omega arith)
-spot_small W16 size s l h = let a = h.word in let b = h.bit in (omega arith, omega arith)
-spot_small W32 size s l h = let a = h.word in let b = h.bit in (omega arith, omega arith)
-spot_small W64 size s l h = let a = h.word in let b = h.bit in (omega arith, omega arith)
+spot_small W8 size s l h = let a = h.0 in let b = h.1.0 in (omega arith, omega arith)
+spot_small W16 size s l h = let a = h.0 in let b = h.1.0 in (omega arith, omega arith)
+spot_small W32 size s l h = let a = h.0 in let b = h.1.0 in (omega arith, omega arith)
+spot_small W64 size s l h = let a = h.0 in let b = h.1.0 in (omega arith, omega arith)
 
 pub spot_reads : (shape : Shape) (s : Spot) → IsWithinLimits shape → IsSpot shape.width shape.ram s → ReadsSpot shape RamSpot (spot_text s) s
 spot_reads shape s w h =
     let m = spot_small shape.width shape.ram s w.ram h in
-    let a = h.word in
-    let b = h.bit in
+    let a = h.0 in
+    let b = h.1.0 in
     let t : nat_lt s.word shape.ram ≡ true = grind (arith, nat_tests) in
     let u : nat_lt s.bit (width_bits shape.width) ≡ true = grind (arith, nat_tests) in
     record { place = rw (begins_of_text (spot_text s) (spot_is_text s m.0 m.1), spot_of_spot s m.0 m.1, t, u) refl }
@@ -242,8 +242,8 @@ spot_reads shape s w h =
 pub other_spot_reads : (shape : Shape) (first : ℕ) (s : Spot) → IsWithinLimits shape → IsSpot shape.width shape.ram s → first ≢ s.word → ReadsSpot shape (OtherSpot first) (spot_text s) s
 other_spot_reads shape first s w h ne =
     let m = spot_small shape.width shape.ram s w.ram h in
-    let a = h.word in
-    let b = h.bit in
+    let a = h.0 in
+    let b = h.1.0 in
     let t : nat_lt s.word shape.ram ≡ true = grind (arith, nat_tests) in
     let u : nat_lt s.bit (width_bits shape.width) ≡ true = grind (arith, nat_tests) in
     let v : (s.word == first) ≡ false = grind (arith, nat_tests) in
@@ -252,8 +252,8 @@ other_spot_reads shape first s w h ne =
 pub flash_spot_reads : (shape : Shape) (s : Spot) → IsWithinLimits shape → IsSpot shape.width shape.flash s → ReadsSpot shape FlashSpot (spot_text s) s
 flash_spot_reads shape s w h =
     let m = spot_small shape.width shape.flash s w.flash h in
-    let a = h.word in
-    let b = h.bit in
+    let a = h.0 in
+    let b = h.1.0 in
     let t : nat_lt s.word shape.flash ≡ true = grind (arith, nat_tests) in
     let u : nat_lt s.bit (width_bits shape.width) ≡ true = grind (arith, nat_tests) in
     record { place = rw (begins_of_text (spot_text s) (spot_is_text s m.0 m.1), spot_of_spot s m.0 m.1, t, u) refl }
