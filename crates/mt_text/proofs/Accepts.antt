@@ -8,8 +8,9 @@ use Rattle.mt_word.specs.Word.{width_bits, Fits}
 use Rattle.mt_fault.specs.declared.fault.Spot.{Spot}
 use Rattle.mt_fault.specs.Placement.{IsSpot}
 use Rattle.mt_port.specs.declared.board.Shape.{Shape}
+use Rattle.mt_text.specs.declared.request.Mark.{Mark}
 use Rattle.mt_text.specs.Tokens.{number_of, hex_of, spot_of, begins_word, decimal, is_digit, has_leading_zero}
-use Rattle.mt_text.specs.Forms.{Form, done, none, row, barred, value, spot, mark, Slot, Num, Addr, FlashAddr, OtherAddr, Data, Bit, SpotSlot, RamSpot, OtherSpot, FlashSpot, step, mapped, value_at, word_at, spot_at, spot_word_at, mark_at, begins_mark, broken_if, spelled, mapped_ok}
+use Rattle.mt_text.specs.Forms.{Form, done, none, row, barred, value, spot, mark, Slot, Num, Addr, FlashAddr, OtherAddr, Data, Bit, SpotSlot, RamSpot, OtherSpot, FlashSpot, step, mapped, value_at, word_at, spot_at, spot_word_at, mark_at, begins_mark, begins_urgent, broken_if, spelled, mapped_ok}
 use Rattle.mt_text.specs.declared.line.LineKind.{LineKind}
 use Rattle.mt_text.specs.declared.line.LineKind.TheVariants.{Spelling, Address, WordTooWide, OffsetsFall, TooManyRequests, FaultRefused}
 use Rattle.mt_text.specs.Accepted.{IsNumber}
@@ -39,7 +40,7 @@ Every shape P (row word form more) = Every shape P form × Every shape P more
 Every shape P (barred word kind form more) = Every shape P more
 Every shape P (value slot form) = (n : ℕ) → IsIn shape slot n → Every shape P (form n)
 Every shape P (spot slot form) = (s : Spot) → IsSpotIn shape slot s → Every shape P (form s)
-Every shape P (mark last count form) = (n : ℕ) → IsMark last count n → Every shape P (form n)
+Every shape P (mark last count form) = (k : Mark) → IsMark last count k.offset → Every shape P (form k)
 
 pub every_mapped : {X Y : Type 0} (shape : Shape) (P : Y → Type 0) (f : X → Y) (F : Form X) → Every shape (λ x. P (f x)) F → Every shape P (mapped f F)
 every_mapped shape P f (done x) h = h
@@ -140,12 +141,14 @@ spot_in shape slot bytes s h =
     let m = after_spelled (spot_of bytes) _ s (of_kind (begins_word bytes) _ Spelling s h) in
     spot_word_in shape slot (record { word = m.0.0; bit = m.0.1 }) s m.2
 
-mark_in : (last count : ℕ) (bytes : List ℕ) (n : ℕ) → mark_at last count bytes ≡ Ok n → IsMark last count n
-mark_in last count bytes n h =
-    let m = after_spelled (number_of (drop 1 bytes)) _ n (of_kind (begins_mark bytes) _ Spelling n h) in
-    let t = after_test _ OffsetsFall (broken_if (nat_le 16 count) TooManyRequests (Ok m.0)) n m.2 in
-    let u = after_test _ TooManyRequests (Ok m.0) n t.1 in
-    let same : m.0 ≡ n = cc (u.1) in
+mark_in : (last count : ℕ) (bytes : List ℕ) (k : Mark) → mark_at last count bytes ≡ Ok k → IsMark last count k.offset
+mark_in last count bytes k h =
+    let m = after_spelled (number_of (drop 1 bytes)) _ k (of_kind (begins_mark bytes) _ Spelling k h) in
+    let spelled_mark : Mark = record { offset = m.0; urgent = begins_urgent bytes } in
+    let t = after_test _ OffsetsFall (broken_if (nat_le 16 count) TooManyRequests (Ok spelled_mark)) k m.2 in
+    let u = after_test _ TooManyRequests (Ok spelled_mark) k t.1 in
+    let whole : spelled_mark ≡ k = cc (u.1) in
+    let same : m.0 ≡ k.offset = ap (λ (x : Mark). x.offset) whole in
     subst (λ (x : ℕ). IsMark last count x) same (number_small (drop 1 bytes) m.0 m.1, (let q = t.0 in grind (arith, nat_tests)), (let q = u.0 in grind (arith, nat_tests)))
 
 -- a step keeps what holds of every value

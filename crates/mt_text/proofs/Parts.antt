@@ -9,6 +9,7 @@ use Rattle.mt_port.specs.declared.request.Module.TheVariants.{RamTst, FlsTst}
 use Rattle.mt_port.specs.declared.request.HandlerOp.{HandlerOp}
 use Rattle.mt_port.specs.declared.request.Request.{Request}
 use Rattle.mt_port.specs.Board.{IsSoundInHandler, AreOrdered}
+use Rattle.mt_text.specs.declared.request.Mark.{Mark}
 use Rattle.mt_text.specs.Tokens.{Token, tokens}
 use Rattle.mt_text.specs.Forms.{Form, done, none, row, barred, value, spot, mark}
 use Rattle.mt_text.specs.Lines.{event, app_op, op_form, running_module, Part, Start, Ended, Requests, Handler, Open, Operation, Separator, part_form, follows, followed, request, line, last_offset, whole, whole_at, settled, Leads, SpellsAt, Spells, is_comment, line_of}
@@ -47,10 +48,10 @@ abbrev IsGoodPart : Shape → Part → Type 0
 IsGoodPart shape Start = Unit {0}
 IsGoodPart shape (Ended ev) = IsSoundEvent shape ev × (running_module ev ≡ None)
 IsGoodPart shape (Requests m ev rs) = Runs shape m ev rs
-IsGoodPart shape (Handler m ev rs n) = Runs shape m ev rs × Comes rs n
-IsGoodPart shape (Open m ev rs n) = Runs shape m ev rs × Comes rs n
-IsGoodPart shape (Operation m ev rs n ops) = Runs shape m ev rs × Comes rs n × AreOps shape m ops
-IsGoodPart shape (Separator m ev rs n ops) = Runs shape m ev rs × Comes rs n × AreOps shape m ops
+IsGoodPart shape (Handler m ev rs n) = Runs shape m ev rs × Comes rs n.offset
+IsGoodPart shape (Open m ev rs n) = Runs shape m ev rs × Comes rs n.offset
+IsGoodPart shape (Operation m ev rs n ops) = Runs shape m ev rs × Comes rs n.offset × AreOps shape m ops
+IsGoodPart shape (Separator m ev rs n ops) = Runs shape m ev rs × Comes rs n.offset × AreOps shape m ops
 
 -- ---- one more request
 
@@ -58,11 +59,11 @@ first_least : (r : Request) (rs : List Request) (n : ℕ) → AreOrdered (r ∷ 
 first_least r [] n o l = l
 first_least r (s ∷ rs) n o l = let m = first_least s rs n o.1 l in let k : r.offset ≤ s.offset = All-head (λ (q : Request). r.offset ≤ q.offset) s rs o.0 in omega arith
 
-ordered_more : (rs : List Request) (n : ℕ) (ops : List HandlerOp) → AreOrdered rs → last_offset rs ≤ n → AreOrdered (rs ++ request n ops ∷ [])
+ordered_more : (rs : List Request) (n : Mark) (ops : List HandlerOp) → AreOrdered rs → last_offset rs ≤ n.offset → AreOrdered (rs ++ request n ops ∷ [])
 ordered_more [] n ops o l = (All-nil _, tt)
 ordered_more (r ∷ []) n ops o l = (All-push (λ (q : Request). r.offset ≤ q.offset) [] (request n ops) (All-nil _) l, (All-nil _, tt))
 ordered_more (r ∷ s ∷ rs) n ops o l =
-    (All-push (λ (q : Request). r.offset ≤ q.offset) (s ∷ rs) (request n ops) o.0 (first_least r (s ∷ rs) n o l), ordered_more (s ∷ rs) n ops o.1 l)
+    (All-push (λ (q : Request). r.offset ≤ q.offset) (s ∷ rs) (request n ops) o.0 (first_least r (s ∷ rs) n.offset o l), ordered_more (s ∷ rs) n ops o.1 l)
 
 sound_ops : (shape : Shape) (callee : Module) (ops : List HandlerOp) → All (IsGoodOp shape callee) ops → All (IsSoundInHandler shape) ops
 sound_ops shape callee ops h k d lt = (h k d lt).0
@@ -70,7 +71,7 @@ sound_ops shape callee ops h k d lt = (h k d lt).0
 own_calls : (shape : Shape) (callee : Module) (ops : List HandlerOp) → All (IsGoodOp shape callee) ops → All (IsFor callee) ops
 own_calls shape callee ops h k d lt = (h k d lt).1
 
-one_more : (shape : Shape) (callee : Module) (ev : Event) (rs : List Request) (n : ℕ) (ops : List HandlerOp) → Runs shape callee ev rs → Comes rs n → AreOps shape callee ops → Runs shape callee ev (rs ++ request n ops ∷ [])
+one_more : (shape : Shape) (callee : Module) (ev : Event) (rs : List Request) (n : Mark) (ops : List HandlerOp) → Runs shape callee ev rs → Comes rs n.offset → AreOps shape callee ops → Runs shape callee ev (rs ++ request n ops ∷ [])
 one_more shape callee ev rs n ops r c o = record {
   event = r.event;
   callee_of = r.callee_of;
@@ -78,7 +79,7 @@ one_more shape callee ev rs n ops r c o = record {
     few = (let k = c.room in let m : length (rs ++ request n ops ∷ []) ≡ length rs + 1 = length-append rs (request n ops ∷ []) in omega arith);
     ordered = ordered_more rs n ops r.requests.ordered c.least;
     sound = All-push (λ (q : Request). All (IsSoundInHandler shape) q.ops.items) rs (request n ops) r.requests.sound (sound_ops shape callee ops o.good);
-    calls = All-push (IsRequest callee) rs (request n ops) r.requests.calls (record { number = c.number; mark = refl; few = o.few; calls = own_calls shape callee ops o.good });
+    calls = All-push (IsRequest callee) rs (request n ops) r.requests.calls (record { number = c.number; few = o.few; calls = own_calls shape callee ops o.good });
   };
 }
 
@@ -114,7 +115,7 @@ operation_leads shape FlsTst true ops e o = tt
 operation_leads shape RamTst false ops e o = weaker shape (IsGoodOp shape RamTst) (λ op. AreOps shape RamTst (ops ++ op ∷ [])) (op_form RamTst false) (λ op g. op_more shape RamTst ops op (grind (arith, nat_tests)) o g) (operations shape RamTst false)
 operation_leads shape FlsTst false ops e o = weaker shape (IsGoodOp shape FlsTst) (λ op. AreOps shape FlsTst (ops ++ op ∷ [])) (op_form FlsTst false) (λ op g. op_more shape FlsTst ops op (grind (arith, nat_tests)) o g) (operations shape FlsTst false)
 
-after_operation : (shape : Shape) (m : Module) (ev : Event) (rs : List Request) (n : ℕ) (ops : List HandlerOp) → Runs shape m ev rs → Comes rs n → AreOps shape m ops
+after_operation : (shape : Shape) (m : Module) (ev : Event) (rs : List Request) (n : Mark) (ops : List HandlerOp) → Runs shape m ev rs → Comes rs n.offset → AreOps shape m ops
     → Every shape (IsGoodPart shape) (part_form (Operation m ev rs n ops))
 after_operation shape m ev rs n ops r c o =
     every_mapped shape (IsGoodPart shape) (λ op. Separator m ev rs n (ops ++ op ∷ [])) (op_form m (nat_le 8 (length ops)))

@@ -19,9 +19,10 @@ use Rattle.mt_port.specs.declared.request.HandlerOp.TheVariants as op
 use Rattle.mt_port.specs.declared.request.Request.{Request}
 use Rattle.mt_port.specs.Board.{IsWithinLimits, IsSoundInHandler, AreOrdered}
 use Rattle.mt_window.specs.Calls.{module_of}
+use Rattle.mt_text.specs.declared.request.Mark.{Mark}
 use Rattle.mt_text.specs.declared.line.Event.{Event}
 use Rattle.mt_text.specs.Tokens.{begins_word}
-use Rattle.mt_text.specs.Forms.{Form, done, row, Num, step, mapped}
+use Rattle.mt_text.specs.Forms.{Form, done, row, Num, step, mapped, mark_byte}
 use Rattle.mt_text.specs.RamServices.{ram_handler_call}
 use Rattle.mt_text.specs.FlsServices.{fls_handler_call}
 use Rattle.mt_text.specs.Lines.{app_op, op_form, Part, Requests, Handler, Open, Operation, Separator, part_form, request_form, operation_form, request, line, last_offset, whole}
@@ -146,7 +147,7 @@ path_from : (shape : Shape) (p : Part) (ws : List (List ℕ)) (g : Form Part) �
 path_from shape p [] g w us e h = absurd cc
 path_from shape p (v ∷ vs) g w us e h = from_part shape p v vs g h
 
-operation_follows : (shape : Shape) (m : Module) (ev : Event) (rs : List Request) (n : ℕ) (before : List HandlerOp) (o : HandlerOp) → IsWithinLimits shape → IsGoodOp shape m o → length before < 8
+operation_follows : (shape : Shape) (m : Module) (ev : Event) (rs : List Request) (n : Mark) (before : List HandlerOp) (o : HandlerOp) → IsWithinLimits shape → IsGoodOp shape m o → length before < 8
     → Follows shape (operation_form m ev rs n before) (op_words shape.width o) (done (Separator m ev rs n (before ++ o ∷ [])))
 operation_follows shape m ev rs n before o w g lt =
     let f : nat_le 8 (length before) ≡ false = grind (arith, nat_tests) in
@@ -154,7 +155,7 @@ operation_follows shape m ev rs n before o w g lt =
     subst (λ (b : Bool). Follows shape (E b) (op_words shape.width o) (done (Separator m ev rs n (before ++ o ∷ [])))) (sym f)
     (follows_mapped shape (λ x. Separator m ev rs n (before ++ x ∷ [])) (op_form m false) (op_words shape.width o) (done o) (op_follows shape m o w g))
 
-operation_path : (shape : Shape) (m : Module) (ev : Event) (rs : List Request) (n : ℕ) (before : List HandlerOp) (o : HandlerOp) → IsWithinLimits shape → IsGoodOp shape m o → length before < 8
+operation_path : (shape : Shape) (m : Module) (ev : Event) (rs : List Request) (n : Mark) (before : List HandlerOp) (o : HandlerOp) → IsWithinLimits shape → IsGoodOp shape m o → length before < 8
     → Path shape (done (Operation m ev rs n before)) (op_words shape.width o) (done (Separator m ev rs n (before ++ o ∷ [])))
 operation_path shape m ev rs n before o w g lt =
     let f = op_first shape.width o in
@@ -166,7 +167,7 @@ not_closing shape A B u w e h = let k : bytes_eq w (codes "]") ≡ false = subst
 head_same : (ws : List (List ℕ)) (u w : List ℕ) (us vs : List (List ℕ)) → ws ≡ u ∷ us → ws ≡ w ∷ vs → u ≡ w
 head_same ws u w us vs e h = cc
 
-open_path : (shape : Shape) (m : Module) (ev : Event) (rs : List Request) (n : ℕ) (o : HandlerOp) → IsWithinLimits shape → IsGoodOp shape m o
+open_path : (shape : Shape) (m : Module) (ev : Event) (rs : List Request) (n : Mark) (o : HandlerOp) → IsWithinLimits shape → IsGoodOp shape m o
     → Path shape (done (Open m ev rs n)) (op_words shape.width o) (done (Separator m ev rs n (o ∷ [])))
 open_path shape m ev rs n o w g =
     let f = op_first shape.width o in
@@ -176,7 +177,7 @@ open_path shape m ev rs n o w g =
     (λ v us e. not_closing shape A (operation_form m ev rs n []) f.0 v (head_same (op_words shape.width o) f.0 v f.1 us f.2 e) f.3)
     (inr (f.0, f.1, f.2)) (operation_follows shape m ev rs n [] o w g (omega arith)))
 
-further_path : (shape : Shape) (m : Module) (ev : Event) (rs : List Request) (n : ℕ) (before ops : List HandlerOp) → IsWithinLimits shape → All (IsGoodOp shape m) ops → length before + length ops ≤ 8
+further_path : (shape : Shape) (m : Module) (ev : Event) (rs : List Request) (n : Mark) (before ops : List HandlerOp) → IsWithinLimits shape → All (IsGoodOp shape m) ops → length before + length ops ≤ 8
     → Path shape (done (Separator m ev rs n before)) (pieces_of (further_ops shape.width ops)) (done (Requests m ev (rs ++ request n (before ++ ops) ∷ [])))
 further_path shape m ev rs n before [] w g lt = (_, refl, ap (λ (x : List HandlerOp). done (Requests m ev (rs ++ request n x ∷ []))) (sym (append-nil before)))
 further_path shape m ev rs n before (o ∷ ops) w g lt =
@@ -191,7 +192,7 @@ further_path shape m ev rs n before (o ∷ ops) w g lt =
           (subst (λ (x : List HandlerOp). Path shape (done (Operation m ev rs n before)) (op_words shape.width o ++ pieces_of (further_ops shape.width ops)) (E x)) (append_assoc before (o ∷ []) ops) whole_),
     )
 
-handler_path : (shape : Shape) (m : Module) (ev : Event) (rs : List Request) (n : ℕ) (o : HandlerOp) (ops : List HandlerOp) → IsWithinLimits shape → All (IsGoodOp shape m) (o ∷ ops) → length (o ∷ ops) ≤ 8
+handler_path : (shape : Shape) (m : Module) (ev : Event) (rs : List Request) (n : Mark) (o : HandlerOp) (ops : List HandlerOp) → IsWithinLimits shape → All (IsGoodOp shape m) (o ∷ ops) → length (o ∷ ops) ≤ 8
     → Path shape (done (Handler m ev rs n)) (pieces_of (handler_pieces shape.width (o ∷ ops))) (done (Requests m ev (rs ++ request n (o ∷ ops) ∷ [])))
 handler_path shape m ev rs n o ops w g lt =
     let E : Form Part = done (Requests m ev (rs ++ request n (o ∷ ops) ∷ [])) in
@@ -202,10 +203,18 @@ handler_path shape m ev rs n o ops w g lt =
 
 -- ---- requests
 
+-- the mark of a request
+abbrev pub mark_of : Request → Mark
+mark_of r = record { offset = r.offset; urgent = r.urgent }
+
+-- a mark as it is written
+abbrev pub mark_text : Mark → List ℕ
+mark_text n = mark_byte n.urgent ∷ decimal n.offset
+
 -- a place where the line may end and a further mark may stand
 record Waits (shape : Shape) (m : Module) (ev : Event) (rs : List Request) (p : Part) : Type 0 where
   ends : whole p ≡ Some (line ev rs)
-  marks : (n : ℕ) → step shape (part_form p) (64 ∷ decimal n) ≡ step shape (request_form m ev rs) (64 ∷ decimal n)
+  marks : (n : Mark) → step shape (part_form p) (mark_text n) ≡ step shape (request_form m ev rs) (mark_text n)
 
 -- what holds of the requests that are still to be written
 record AreNext (shape : Shape) (m : Module) (before after : List Request) : Type 0 where
@@ -215,8 +224,13 @@ record AreNext (shape : Shape) (m : Module) (before after : List Request) : Type
   calls : All (IsRequest m) after
   sound : All (λ (r : Request). All (IsSoundInHandler shape) r.ops.items) after
 
-mark_step : (shape : Shape) (m : Module) (ev : Event) (rs : List Request) (n : ℕ) → IsNumber n → last_offset rs ≤ n → length rs < 16 → step shape (request_form m ev rs) (64 ∷ decimal n) ≡ Ok (done (Handler m ev rs n))
-mark_step shape m ev rs n lt le few =
+mark_step : (shape : Shape) (m : Module) (ev : Event) (rs : List Request) (offset : ℕ) (urgent : Bool) → IsNumber offset → last_offset rs ≤ offset → length rs < 16
+    → step shape (request_form m ev rs) (mark_byte urgent ∷ decimal offset) ≡ Ok (done (Handler m ev rs (record { offset = offset; urgent = urgent })))
+mark_step shape m ev rs n true lt le few =
+    let a : nat_lt n (last_offset rs) ≡ false = grind (arith, nat_tests) in
+    let b : nat_le 16 (length rs) ≡ false = grind (arith, nat_tests) in
+    rw (number_of_text n lt, a, b) refl
+mark_step shape m ev rs n false lt le few =
     let a : nat_lt n (last_offset rs) ≡ false = grind (arith, nat_tests) in
     let b : nat_le 16 (length rs) ≡ false = grind (arith, nat_tests) in
     rw (number_of_text n lt, a, b) refl
@@ -250,44 +264,43 @@ pieces_of_append (p ∷ ps) qs = ap (λ (x : List (List ℕ)). p.bytes ∷ x) (p
 joined : (shape : Shape) (ev : Event) (p q : Part) (ws us : List (List ℕ)) (rs : List Request) → Path shape (done p) ws (done q) → Leads shape ev q us rs → Leads shape ev p (ws ++ us) rs
 joined shape ev p q ws us rs h k = record { last = k.last; path = path_append shape (done p) ws (done q) us (done k.last) h k.path; ends = k.ends }
 
-marked : (shape : Shape) (m : Module) (ev : Event) (p : Part) (before : List Request) (n : ℕ) (ws : List (List ℕ)) (rs : List Request) → Waits shape m ev before p → IsNumber n → last_offset before ≤ n → length before < 16
-    → Leads shape ev (Handler m ev before n) ws rs → Leads shape ev p ((64 ∷ decimal n) ∷ ws) rs
-marked shape m ev p before n ws rs w lt le few k = record { last = k.last; path = (done (Handler m ev before n), (w.marks n ∙ mark_step shape m ev before n lt le few), k.path); ends = k.ends }
+marked : (shape : Shape) (m : Module) (ev : Event) (p : Part) (before : List Request) (n : Mark) (ws : List (List ℕ)) (rs : List Request) → Waits shape m ev before p → IsNumber n.offset → last_offset before ≤ n.offset → length before < 16
+    → Leads shape ev (Handler m ev before n) ws rs → Leads shape ev p (mark_text n ∷ ws) rs
+marked shape m ev p before n ws rs w lt le few k = record { last = k.last; path = (done (Handler m ev before n), (w.marks n ∙ mark_step shape m ev before n.offset n.urgent lt le few), k.path); ends = k.ends }
 
--- a request is its offset and its operations
-request_is : (r : Request) → r.urgent ≡ false → request r.offset r.ops.items ≡ r
-request_is r mark = ap (λ (u : Bool). record { offset = r.offset; urgent = u; ops = r.ops }) (sym mark)
+no_bracket : (urgent : Bool) (bs : List ℕ) → bytes_eq (mark_byte urgent ∷ bs) (codes "[") ≡ false
+no_bracket true bs = refl
+no_bracket false bs = refl
 
-waits_behind_mark : (shape : Shape) (m : Module) (ev : Event) (rs : List Request) (n : ℕ) → Waits shape m ev (rs ++ request n [] ∷ []) (Handler m ev rs n)
-waits_behind_mark shape m ev rs n = record { ends = refl; marks = λ k. refl }
+waits_behind_mark : (shape : Shape) (m : Module) (ev : Event) (rs : List Request) (n : Mark) → Waits shape m ev (rs ++ request n [] ∷ []) (Handler m ev rs n)
+waits_behind_mark shape m ev rs n = record { ends = refl; marks = λ k. rw (no_bracket k.urgent (decimal k.offset)) refl }
 
 waits : (shape : Shape) (m : Module) (ev : Event) (rs : List Request) → Waits shape m ev rs (Requests m ev rs)
 waits shape m ev rs = record { ends = refl; marks = λ k. refl }
 
 behind_mark : (shape : Shape) (m : Module) (ev : Event) (before : List Request) (r : Request) (ops : List HandlerOp) (ps : List Piece) (rs : List Request) → r.ops.items ≡ ops → IsWithinLimits shape → AreNext shape m before (r ∷ rs)
-    → ((q : Part) → Waits shape m ev (before ++ r ∷ []) q → Leads shape ev q (pieces_of ps) (before ++ r ∷ rs)) → Leads shape ev (Handler m ev before r.offset) (pieces_of (handler_pieces shape.width ops ++ ps)) (before ++ r ∷ rs)
+    → ((q : Part) → Waits shape m ev (before ++ r ∷ []) q → Leads shape ev q (pieces_of ps) (before ++ r ∷ rs)) → Leads shape ev (Handler m ev before (mark_of r)) (pieces_of (handler_pieces shape.width ops ++ ps)) (before ++ r ∷ rs)
 behind_mark shape m ev before r [] ps rs e w h more =
-    let mark = (All-head (IsRequest m) r rs h.calls).mark in
-    let same : before ++ request r.offset [] ∷ [] ≡ before ++ r ∷ [] = ap (λ (x : List HandlerOp). before ++ request r.offset x ∷ []) (sym e) ∙ ap (λ (q : Request). before ++ q ∷ []) (request_is r mark) in
-    more (Handler m ev before r.offset) (subst (λ (x : List Request). Waits shape m ev x (Handler m ev before r.offset)) same (waits_behind_mark shape m ev before r.offset))
+    let same : before ++ request (mark_of r) [] ∷ [] ≡ before ++ r ∷ [] = ap (λ (x : List HandlerOp). before ++ request (mark_of r) x ∷ []) (sym e) in
+    more (Handler m ev before (mark_of r)) (subst (λ (x : List Request). Waits shape m ev x (Handler m ev before (mark_of r))) same (waits_behind_mark shape m ev before (mark_of r)))
 behind_mark shape m ev before r (o ∷ ops) ps rs e w h more =
     let c = All-head (IsRequest m) r rs h.calls in
     let s = All-head (λ (q : Request). All (IsSoundInHandler shape) q.ops.items) r rs h.sound in
     let good : All (IsGoodOp shape m) (o ∷ ops) = subst (λ (x : List HandlerOp). All (IsGoodOp shape m) x) e (good_ops shape m r.ops.items s c.calls) in
     let few : length (o ∷ ops) ≤ 8 = subst (λ (x : List HandlerOp). length x ≤ 8) e c.few in
-    let path = handler_path shape m ev before r.offset o ops w good few in
-    let same : before ++ request r.offset (o ∷ ops) ∷ [] ≡ before ++ r ∷ [] = ap (λ (x : List HandlerOp). before ++ request r.offset x ∷ []) (sym e) ∙ ap (λ (q : Request). before ++ q ∷ []) (request_is r c.mark) in
-    let q = Requests m ev (before ++ request r.offset (o ∷ ops) ∷ []) in
-    let rest = more q (subst (λ (x : List Request). Waits shape m ev x q) same (waits shape m ev (before ++ request r.offset (o ∷ ops) ∷ []))) in
-    subst (λ (ws : List (List ℕ)). Leads shape ev (Handler m ev before r.offset) ws (before ++ r ∷ rs)) (sym (pieces_of_append (handler_pieces shape.width (o ∷ ops)) ps))
-    (joined shape ev (Handler m ev before r.offset) q (pieces_of (handler_pieces shape.width (o ∷ ops))) (pieces_of ps) (before ++ r ∷ rs) path rest)
+    let path = handler_path shape m ev before (mark_of r) o ops w good few in
+    let same : before ++ request (mark_of r) (o ∷ ops) ∷ [] ≡ before ++ r ∷ [] = ap (λ (x : List HandlerOp). before ++ request (mark_of r) x ∷ []) (sym e) in
+    let q = Requests m ev (before ++ request (mark_of r) (o ∷ ops) ∷ []) in
+    let rest = more q (subst (λ (x : List Request). Waits shape m ev x q) same (waits shape m ev (before ++ request (mark_of r) (o ∷ ops) ∷ []))) in
+    subst (λ (ws : List (List ℕ)). Leads shape ev (Handler m ev before (mark_of r)) ws (before ++ r ∷ rs)) (sym (pieces_of_append (handler_pieces shape.width (o ∷ ops)) ps))
+    (joined shape ev (Handler m ev before (mark_of r)) q (pieces_of (handler_pieces shape.width (o ∷ ops))) (pieces_of ps) (before ++ r ∷ rs) path rest)
 
 requests_path : (shape : Shape) (m : Module) (ev : Event) (p : Part) (before after : List Request) → IsWithinLimits shape → Waits shape m ev before p → AreNext shape m before after → Leads shape ev p (pieces_of (requests_pieces shape.width after)) (before ++ after)
 requests_path shape m ev p before [] w v h = record { last = p; path = refl; ends = v.ends ∙ ap (λ (x : List Request). Some (line ev x)) (sym (append-nil before)) }
 requests_path shape m ev p before (r ∷ rs) w v h =
     let c = All-head (IsRequest m) r rs h.calls in
     let k = h.room in
-    marked shape m ev p before r.offset (pieces_of (handler_pieces shape.width r.ops.items ++ requests_pieces shape.width rs)) (before ++ r ∷ rs) v c.number (All-head (λ (q : Request). last_offset before ≤ q.offset) r rs h.least) (omega arith)
+    marked shape m ev p before (mark_of r) (pieces_of (handler_pieces shape.width r.ops.items ++ requests_pieces shape.width rs)) (before ++ r ∷ rs) v c.number (All-head (λ (q : Request). last_offset before ≤ q.offset) r rs h.least) (omega arith)
     (behind_mark shape m ev before r r.ops.items (requests_pieces shape.width rs) rs refl w h
     (λ q u. subst (λ (x : List Request). Leads shape ev q (pieces_of (requests_pieces shape.width rs)) x) (append_assoc before (r ∷ []) rs) (requests_path shape m ev q (before ++ r ∷ []) rs w u (one_less shape m before r rs h))))
 
@@ -332,7 +345,7 @@ requests_apart shape m (r ∷ rs) w c s =
     let h = All-head (IsRequest m) r rs c in
     let k = All-head (λ (q : Request). All (IsSoundInHandler shape) q.ops.items) r rs s in
     let rest = requests_apart shape m rs w (All-tail (IsRequest m) r rs c) (All-tail (λ (q : Request). All (IsSoundInHandler shape) q.ops.items) r rs s) in (
-      inl (mark_is_text r.offset h.number),
+      inl (mark_is_text r.urgent r.offset h.number),
       (λ i. handler_begins shape.width r.ops.items (requests_pieces shape.width rs) (requests_begin shape.width rs)),
       handler_apart shape m r.ops.items (requests_pieces shape.width rs) w (good_ops shape m r.ops.items k h.calls) rest,
     )

@@ -11,6 +11,7 @@ use Rattle.mt_port.specs.declared.request.HandlerOp.{HandlerOp}
 use Rattle.mt_port.specs.declared.request.HandlerOp.TheVariants.{App as AppIn, Call}
 use Rattle.mt_port.specs.declared.request.Request.{Request}
 use Rattle.mt_port.specs.declared.request.AppOp.TheVariants.{Read}
+use Rattle.mt_text.specs.declared.request.Mark.{Mark}
 use Rattle.mt_text.specs.declared.line.Event.{Event}
 use Rattle.mt_text.specs.declared.line.Event.TheVariants.{Ram, Fls, App, Inject}
 use Rattle.mt_text.specs.declared.line.Line.{Line}
@@ -19,7 +20,7 @@ use Rattle.mt_text.specs.declared.line.LineRefusal.{LineRefusal}
 use Rattle.std.proofs.lemmas.List.{append-nil}
 use Rattle.mt_text.specs.declared.line.LineKind.TheVariants.{Spelling, Address, FaultRefused, WordTooWide, OffsetsFall, TooManyRequests, TooManyOps, NotInHandler}
 use Rattle.mt_text.specs.Tokens.{Token, begins_word, number_of, hex_of, spot_of}
-use Rattle.mt_text.specs.Forms.{Form, done, none, row, barred, value, spot, mark, Slot, Num, Addr, FlashAddr, OtherAddr, Data, Bit, SpotSlot, RamSpot, OtherSpot, FlashSpot, step, mapped, mapped_ok, value_at, word_at, spot_at, spot_word_at, mark_at, begins_mark, broken_if, spelled, bit_of}
+use Rattle.mt_text.specs.Forms.{Form, done, none, row, barred, value, spot, mark, Slot, Num, Addr, FlashAddr, OtherAddr, Data, Bit, SpotSlot, RamSpot, OtherSpot, FlashSpot, step, mapped, mapped_ok, value_at, word_at, spot_at, spot_word_at, mark_at, begins_mark, begins_urgent, broken_if, spelled, bit_of}
 use Rattle.mt_text.specs.RamServices.{ram_call, ram_handler_call}
 use Rattle.mt_text.specs.FlsServices.{fls_call, fls_handler_call}
 use Rattle.mt_text.specs.Lines.{app_op, fault, event, op_form, Part, Start, Ended, Requests, Handler, Open, Operation, Separator, part_form, follows, request, settled, whole_at, Leads, FirstBroken, SpellsTokens}
@@ -36,6 +37,10 @@ data Stage : Type 0 where
   opened : Stage
   operation : Stage
   separator : Stage
+
+-- some mark
+abbrev no_mark : Mark
+no_mark = record { offset = 0; urgent = false }
 
 abbrev stage : Part → Stage
 stage Start = starts
@@ -60,7 +65,7 @@ kinds s (row w form more) = branch w (kinds s form) (kinds s more)
 kinds s (barred w k form more) = branch w (kinds s form) (kinds s more)
 kinds s (value slot form) = word (kinds s (form 0))
 kinds s (spot slot form) = word (kinds s (form (record { word = 0; bit = 0 })))
-kinds s (mark last count form) = marked (kinds s (form 0))
+kinds s (mark last count form) = marked (kinds s (form no_mark))
 
 -- the kinds don't depend on the values, and no barred word breaks rule 1
 abbrev Uniform : {X : Type 0} → (X → Stage) → Form X → Type 0
@@ -70,7 +75,7 @@ Uniform s (row w form more) = Uniform s form × Uniform s more
 Uniform s (barred w k form more) = (k ≢ Spelling) × Uniform s form × Uniform s more
 Uniform s (value slot form) = ((n : ℕ) → kinds s (form n) ≡ kinds s (form 0)) × ((n : ℕ) → Uniform s (form n))
 Uniform s (spot slot form) = ((p : Spot) → kinds s (form p) ≡ kinds s (form (record { word = 0; bit = 0 }))) × ((p : Spot) → Uniform s (form p))
-Uniform s (mark last count form) = ((n : ℕ) → kinds s (form n) ≡ kinds s (form 0)) × ((n : ℕ) → Uniform s (form n))
+Uniform s (mark last count form) = ((k : Mark) → kinds s (form k) ≡ kinds s (form no_mark)) × ((k : Mark) → Uniform s (form k))
 
 kinds_mapped : {X Y : Type 0} (s : Y → Stage) (f : X → Y) (F : Form X) → kinds s (mapped f F) ≡ kinds (λ x. s (f x)) F
 kinds_mapped s f (done x) = refl
@@ -79,7 +84,7 @@ kinds_mapped s f (row w g more) = rw (kinds_mapped s f g, kinds_mapped s f more)
 kinds_mapped s f (barred w k g more) = rw (kinds_mapped s f g, kinds_mapped s f more) refl
 kinds_mapped s f (value slot g) = ap word (kinds_mapped s f (g 0))
 kinds_mapped s f (spot slot g) = ap word (kinds_mapped s f (g (record { word = 0; bit = 0 })))
-kinds_mapped s f (mark l c g) = ap marked (kinds_mapped s f (g 0))
+kinds_mapped s f (mark l c g) = ap marked (kinds_mapped s f (g no_mark))
 
 uniform_mapped : {X Y : Type 0} (s : Y → Stage) (f : X → Y) (F : Form X) → Uniform (λ x. s (f x)) F → Uniform s (mapped f F)
 uniform_mapped s f (done x) h = tt
@@ -88,7 +93,7 @@ uniform_mapped s f (row w g more) h = (uniform_mapped s f g h.0, uniform_mapped 
 uniform_mapped s f (barred w k g more) h = (h.0, uniform_mapped s f g h.1, uniform_mapped s f more h.2)
 uniform_mapped s f (value slot g) h = ((λ n. kinds_mapped s f (g n) ∙ h.0 n ∙ sym (kinds_mapped s f (g 0))), (λ n. uniform_mapped s f (g n) (h.1 n)))
 uniform_mapped s f (spot slot g) h = ((λ n. kinds_mapped s f (g n) ∙ h.0 n ∙ sym (kinds_mapped s f (g (record { word = 0; bit = 0 })))), (λ n. uniform_mapped s f (g n) (h.1 n)))
-uniform_mapped s f (mark l c g) h = ((λ n. kinds_mapped s f (g n) ∙ h.0 n ∙ sym (kinds_mapped s f (g 0))), (λ n. uniform_mapped s f (g n) (h.1 n)))
+uniform_mapped s f (mark l c g) h = ((λ k. kinds_mapped s f (g k) ∙ h.0 k ∙ sym (kinds_mapped s f (g no_mark))), (λ k. uniform_mapped s f (g k) (h.1 k)))
 
 -- one token in a tree
 abbrev tree_step : Tree → List ℕ → Option Tree
@@ -202,7 +207,7 @@ no_kind s shape (value slot form) bytes b h =
 no_kind s shape (spot slot form) bytes b h =
     elim (cases_Bool (begins_word bytes)) [ inl e ↦ absurd (later_spelled (spot_of bytes) _ (λ p. spot_word_later shape slot (record { word = p.0; bit = p.1 })) (let g = mapped_later form (spot_at shape slot bytes) h in rw e at g)) | inr e ↦ rw e refl ]
 no_kind s shape (mark l c form) bytes b h =
-    elim (cases_Bool (begins_mark bytes)) [ inl e ↦ absurd (later_spelled (number_of (drop 1 bytes)) _ (λ n. later_if _ _ _ offsets_later (later_if _ _ _ requests_later (ok_later n))) (let g = mapped_later form (mark_at l c bytes) h in rw e at g)) | inr e ↦ rw e refl ]
+    elim (cases_Bool (begins_mark bytes)) [ inl e ↦ absurd (later_spelled (number_of (drop 1 bytes)) _ (λ n. later_if _ _ _ offsets_later (later_if _ _ _ requests_later (ok_later {A = Mark} (record { offset = n; urgent = begins_urgent bytes })))) (let g = mapped_later form (mark_at l c bytes) h in rw e at g)) | inr e ↦ rw e refl ]
 
 -- a token of a kind, or rule 1
 kind_or_rule : {X : Type 0} (shape : Shape) (F : Form X) (bytes : List ℕ) → ((G : Form X) × Allows F bytes G) ⊎ (step shape F bytes ≡ Err Spelling)
@@ -214,7 +219,7 @@ kind_or_rule {X} shape (barred w k form more) bytes =
     elim (bytes_eq bytes w) as (λ b. ((G : Form X) × Either b (form ≡ G) (Allows more bytes G)) ⊎ (cond b (Err k) (step shape more bytes) ≡ Err Spelling)) [ true ↦ inl (form, refl) | false ↦ kind_or_rule shape more bytes ]
 kind_or_rule shape (value slot form) bytes = elim (cases_Bool (begins_word bytes)) [ inl e ↦ inl (form 0, (e, (0, refl))) | inr e ↦ inr (rw e refl) ]
 kind_or_rule shape (spot slot form) bytes = let o : Spot = record { word = 0; bit = 0 } in elim (cases_Bool (begins_word bytes)) [ inl e ↦ inl (form o, (e, (o, refl))) | inr e ↦ inr (rw e refl) ]
-kind_or_rule shape (mark l c form) bytes = elim (cases_Bool (begins_mark bytes)) [ inl e ↦ inl (form 0, (e, (0, refl))) | inr e ↦ inr (rw e refl) ]
+kind_or_rule shape (mark l c form) bytes = elim (cases_Bool (begins_mark bytes)) [ inl e ↦ inl (form no_mark, (e, (no_mark, refl))) | inr e ↦ inr (rw e refl) ]
 
 -- ---- the tables
 
@@ -367,10 +372,10 @@ op_uniform c FlsTst true = full_uniform c
 
 -- ---- parts
 
-abbrev behind_op : Module → Event → List Request → ℕ → List HandlerOp → HandlerOp → Part
+abbrev behind_op : Module → Event → List Request → Mark → List HandlerOp → HandlerOp → Part
 behind_op m ev rs n ops op = Separator m ev rs n (ops ++ op ∷ [])
 
-operation_uniform : (m : Module) (ev : Event) (rs : List Request) (n : ℕ) (ops : List HandlerOp) → Uniform stage (part_form (Operation m ev rs n ops))
+operation_uniform : (m : Module) (ev : Event) (rs : List Request) (n : Mark) (ops : List HandlerOp) → Uniform stage (part_form (Operation m ev rs n ops))
 operation_uniform m ev rs n ops = uniform_mapped stage (behind_op m ev rs n ops) (op_form m (nat_le 8 (length ops))) (op_uniform separator m (nat_le 8 (length ops)))
 
 part_uniform : (p : Part) → Uniform stage (part_form p)
@@ -420,7 +425,7 @@ op_kinds FlsTst false = refl
 op_kinds RamTst true = refl
 op_kinds FlsTst true = refl
 
-operation_kinds : (m : Module) (ev : Event) (rs : List Request) (n : ℕ) (ops : List HandlerOp) → kinds stage (part_form (Operation m ev rs n ops)) ≡ op_tree
+operation_kinds : (m : Module) (ev : Event) (rs : List Request) (n : Mark) (ops : List HandlerOp) → kinds stage (part_form (Operation m ev rs n ops)) ≡ op_tree
 operation_kinds m ev rs n ops = kinds_mapped stage (behind_op m ev rs n ops) (op_form m (nat_le 8 (length ops))) ∙ op_kinds m (nat_le 8 (length ops))
 
 part_kinds : (p : Part) → kinds stage (part_form p) ≡ stage_tree (stage p)
@@ -561,7 +566,7 @@ line_ends : (p : Part) (l : Line) → whole_at (done p) ≡ Some l → Completio
 unfolding Completion GoesOn
 line_ends p l h = ([], (l, h))
 
-behind_separator : (m : Module) (ev : Event) (rs : List Request) (n : ℕ) (ops : List HandlerOp) → Completion (done (Separator m ev rs n ops))
+behind_separator : (m : Module) (ev : Event) (rs : List Request) (n : Mark) (ops : List HandlerOp) → Completion (done (Separator m ev rs n ops))
 unfolding Completion GoesOn
 behind_separator m ev rs n ops = (codes "]" ∷ [], (done (Requests m ev (rs ++ request n ops ∷ [])), refl, (_, refl)))
 
@@ -573,7 +578,7 @@ read_of f FlsTst false = refl
 read_of f RamTst true = refl
 read_of f FlsTst true = refl
 
-behind_operation : (m : Module) (ev : Event) (rs : List Request) (n : ℕ) (ops : List HandlerOp) → Completion (done (Operation m ev rs n ops))
+behind_operation : (m : Module) (ev : Event) (rs : List Request) (n : Mark) (ops : List HandlerOp) → Completion (done (Operation m ev rs n ops))
 unfolding Completion GoesOn
 behind_operation m ev rs n ops =
     let c = behind_separator m ev rs n (ops ++ AppIn (Read 0) ∷ []) in (
@@ -603,7 +608,7 @@ complete (row w form more) h = let c = complete form h in (w ∷ c.0, (form, fir
 complete (barred w k form more) h = let c = complete form h in (w ∷ c.0, (form, first_chosen w form more, c.1))
 complete (value slot form) h = let c = complete (form 0) h in (codes "0" ∷ c.0, (form 0, (refl, (0, refl)), c.1))
 complete (spot slot form) h = let o : Spot = record { word = 0; bit = 0 } in let c = complete (form o) h in (codes "0" ∷ c.0, (form o, (refl, (o, refl)), c.1))
-complete (mark l c form) h = let k = complete (form 0) h in (codes "@" ∷ k.0, (form 0, (refl, (0, refl)), k.1))
+complete (mark l c form) h = let k = complete (form no_mark) h in (codes "@" ∷ k.0, (form no_mark, (refl, (no_mark, refl)), k.1))
 
 pub some_line : (shape : Shape) (form : Form Part) (before : List Token) (bytes : List ℕ) → Leads shape (done Start) before form → ((rest : List (List ℕ)) → ¬ IsOfKinds (bytes_of before ++ bytes ∷ rest)) → step shape (settled form) bytes ≡ Err Spelling
 unfolding Completion GoesOn all_live

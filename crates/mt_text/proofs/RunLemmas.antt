@@ -3,6 +3,7 @@ use Rattle.std.proofs.Common.{◌≡◌, ℕ, Bool, true, false, nat_le, List, [
 use Rattle.std.proofs.lemmas.Bool.{cases_Bool}
 use Rattle.std.specs.Str.{bytes_eq}
 use Rattle.std.specs.Prelude.{if◌then◌else◌}
+use Rattle.mt_text.specs.declared.request.Mark.{Mark}
 use Rattle.mt_text.specs.Tokens.{Token}
 use Rattle.mt_text.specs.Cursors.{first_is, behind, no_token}
 use Rattle.mt_text.specs.Forms.{Form, done, none, row, barred, value, spot, mark, mark_at, read, refused, is_done, mapped, ◌>>=◌, at_place, value_at, spot_at, step, mapped_ok}
@@ -108,7 +109,7 @@ pub requests_end : (shape : Shape) (end : ℕ) (m : Module) (ev : Event) (rs : L
 unfolding run
 requests_end shape end m ev rs = refl
 
-pub requests_ok : (shape : Shape) (end : ℕ) (m : Module) (ev : Event) (rs : List Request) (t : Token) (ts : List Token) (n : ℕ) → at_place t.place (mark_at (last_offset rs) (length rs) t.bytes) ≡ Ok n
+pub requests_ok : (shape : Shape) (end : ℕ) (m : Module) (ev : Event) (rs : List Request) (t : Token) (ts : List Token) (n : Mark) → at_place t.place (mark_at (last_offset rs) (length rs) t.bytes) ≡ Ok n
     → run shape end (done (Requests m ev rs)) (t ∷ ts) ≡ run shape end (done (Handler m ev rs n)) ts
 unfolding read
 requests_ok shape end m ev rs t ts n h = run_part shape end (Requests m ev rs) t ts refl ∙ rw h refl
@@ -118,22 +119,22 @@ pub requests_err : (shape : Shape) (end : ℕ) (m : Module) (ev : Event) (rs : L
 unfolding read
 requests_err shape end m ev rs t ts e h = run_part shape end (Requests m ev rs) t ts refl ∙ rw h refl
 
-pub handler_open : (shape : Shape) (end : ℕ) (m : Module) (ev : Event) (rs : List Request) (n : ℕ) (ts : List Token) → first_is (codes "[") ts ≡ true → run shape end (done (Handler m ev rs n)) ts ≡ run shape end (done (Open m ev rs n)) (behind ts)
+pub handler_open : (shape : Shape) (end : ℕ) (m : Module) (ev : Event) (rs : List Request) (n : Mark) (ts : List Token) → first_is (codes "[") ts ≡ true → run shape end (done (Handler m ev rs n)) ts ≡ run shape end (done (Open m ev rs n)) (behind ts)
 unfolding run
 handler_open shape end m ev rs n [] h = absurd cc
 handler_open shape end m ev rs n (t ∷ ts) h = rw h refl
 
-pub handler_none : (shape : Shape) (end : ℕ) (m : Module) (ev : Event) (rs : List Request) (n : ℕ) (ts : List Token) → first_is (codes "[") ts ≡ false → run shape end (done (Handler m ev rs n)) ts ≡ run shape end (done (Requests m ev (rs ++ request n [] ∷ []))) ts
+pub handler_none : (shape : Shape) (end : ℕ) (m : Module) (ev : Event) (rs : List Request) (n : Mark) (ts : List Token) → first_is (codes "[") ts ≡ false → run shape end (done (Handler m ev rs n)) ts ≡ run shape end (done (Requests m ev (rs ++ request n [] ∷ []))) ts
 unfolding run
 handler_none shape end m ev rs n [] h = refl
 handler_none shape end m ev rs n (t ∷ ts) h = rw h refl
 
-pub open_close : (shape : Shape) (end : ℕ) (m : Module) (ev : Event) (rs : List Request) (n : ℕ) (ts : List Token) → first_is (codes "]") ts ≡ true → run shape end (done (Open m ev rs n)) ts ≡ run shape end (done (Requests m ev (rs ++ request n [] ∷ []))) (behind ts)
+pub open_close : (shape : Shape) (end : ℕ) (m : Module) (ev : Event) (rs : List Request) (n : Mark) (ts : List Token) → first_is (codes "]") ts ≡ true → run shape end (done (Open m ev rs n)) ts ≡ run shape end (done (Requests m ev (rs ++ request n [] ∷ []))) (behind ts)
 unfolding run
 open_close shape end m ev rs n [] h = absurd cc
 open_close shape end m ev rs n (t ∷ ts) h = rw h refl
 
-operation_goes_on : (m : Module) (ev : Event) (rs : List Request) (n : ℕ) (ops : List HandlerOp) → is_done (operation_form m ev rs n ops) ≡ false
+operation_goes_on : (m : Module) (ev : Event) (rs : List Request) (n : Mark) (ops : List HandlerOp) → is_done (operation_form m ev rs n ops) ≡ false
 operation_goes_on m ev rs n ops = is_done_of_mapped (λ op. Separator m ev rs n (ops ++ op ∷ [])) (op_form m (nat_le 8 (length ops))) (op_form_goes_on m (nat_le 8 (length ops)))
 
 not_done_whole : (f : Form Part) → is_done f ≡ false → whole_at f ≡ None
@@ -145,35 +146,35 @@ not_done_whole (value s g) d = refl
 not_done_whole (spot s g) d = refl
 not_done_whole (mark l c g) d = refl
 
-pub open_op : (shape : Shape) (end : ℕ) (m : Module) (ev : Event) (rs : List Request) (n : ℕ) (ts : List Token) → first_is (codes "]") ts ≡ false → run shape end (done (Open m ev rs n)) ts ≡ run shape end (done (Operation m ev rs n [])) ts
+pub open_op : (shape : Shape) (end : ℕ) (m : Module) (ev : Event) (rs : List Request) (n : Mark) (ts : List Token) → first_is (codes "]") ts ≡ false → run shape end (done (Open m ev rs n)) ts ≡ run shape end (done (Operation m ev rs n [])) ts
 unfolding run
 open_op shape end m ev rs n [] h = refl
 open_op shape end m ev rs n (t ∷ ts) h = rw h refl
 
-pub operation_end : (shape : Shape) (end : ℕ) (m : Module) (ev : Event) (rs : List Request) (n : ℕ) (ops : List HandlerOp) → run shape end (done (Operation m ev rs n ops)) [] ≡ refused Spelling end
+pub operation_end : (shape : Shape) (end : ℕ) (m : Module) (ev : Event) (rs : List Request) (n : Mark) (ops : List HandlerOp) → run shape end (done (Operation m ev rs n ops)) [] ≡ refused Spelling end
 unfolding run
 operation_end shape end m ev rs n ops = refl
 
-pub operation_token : (shape : Shape) (end : ℕ) (m : Module) (ev : Event) (rs : List Request) (n : ℕ) (ops : List HandlerOp) (t : Token) (ts : List Token)
+pub operation_token : (shape : Shape) (end : ℕ) (m : Module) (ev : Event) (rs : List Request) (n : Mark) (ops : List HandlerOp) (t : Token) (ts : List Token)
     → run shape end (done (Operation m ev rs n ops)) (t ∷ ts) ≡ AfterMapped shape end (λ op. Separator m ev rs n (ops ++ op ∷ [])) (read shape end (op_form m (nat_le 8 (length ops))) (t ∷ ts))
 operation_token shape end m ev rs n ops t ts =
     run_mapped shape end (Operation m ev rs n ops) (λ op. Separator m ev rs n (ops ++ op ∷ [])) (op_form m (nat_le 8 (length ops))) t ts refl (op_form_goes_on m (nat_le 8 (length ops)))
 
-pub separator_end : (shape : Shape) (end : ℕ) (m : Module) (ev : Event) (rs : List Request) (n : ℕ) (ops : List HandlerOp) → run shape end (done (Separator m ev rs n ops)) [] ≡ refused Spelling end
+pub separator_end : (shape : Shape) (end : ℕ) (m : Module) (ev : Event) (rs : List Request) (n : Mark) (ops : List HandlerOp) → run shape end (done (Separator m ev rs n ops)) [] ≡ refused Spelling end
 unfolding run
 separator_end shape end m ev rs n ops = refl
 
-pub separator_close : (shape : Shape) (end : ℕ) (m : Module) (ev : Event) (rs : List Request) (n : ℕ) (ops : List HandlerOp) (t : Token) (ts : List Token) → bytes_eq t.bytes (codes ";") ≡ false → bytes_eq t.bytes (codes "]") ≡ true
+pub separator_close : (shape : Shape) (end : ℕ) (m : Module) (ev : Event) (rs : List Request) (n : Mark) (ops : List HandlerOp) (t : Token) (ts : List Token) → bytes_eq t.bytes (codes ";") ≡ false → bytes_eq t.bytes (codes "]") ≡ true
     → run shape end (done (Separator m ev rs n ops)) (t ∷ ts) ≡ run shape end (done (Requests m ev (rs ++ request n ops ∷ []))) ts
 unfolding run
 separator_close shape end m ev rs n ops t ts g h = rw (g, h) refl
 
-pub separator_semicolon : (shape : Shape) (end : ℕ) (m : Module) (ev : Event) (rs : List Request) (n : ℕ) (ops : List HandlerOp) (t : Token) (ts : List Token) → bytes_eq t.bytes (codes ";") ≡ true
+pub separator_semicolon : (shape : Shape) (end : ℕ) (m : Module) (ev : Event) (rs : List Request) (n : Mark) (ops : List HandlerOp) (t : Token) (ts : List Token) → bytes_eq t.bytes (codes ";") ≡ true
     → run shape end (done (Separator m ev rs n ops)) (t ∷ ts) ≡ run shape end (done (Operation m ev rs n ops)) ts
 unfolding run
 separator_semicolon shape end m ev rs n ops t ts h = rw h refl
 
-pub separator_other : (shape : Shape) (end : ℕ) (m : Module) (ev : Event) (rs : List Request) (n : ℕ) (ops : List HandlerOp) (t : Token) (ts : List Token) → bytes_eq t.bytes (codes ";") ≡ false → bytes_eq t.bytes (codes "]") ≡ false
+pub separator_other : (shape : Shape) (end : ℕ) (m : Module) (ev : Event) (rs : List Request) (n : Mark) (ops : List HandlerOp) (t : Token) (ts : List Token) → bytes_eq t.bytes (codes ";") ≡ false → bytes_eq t.bytes (codes "]") ≡ false
     → run shape end (done (Separator m ev rs n ops)) (t ∷ ts) ≡ refused Spelling t.place
 unfolding run
 separator_other shape end m ev rs n ops t ts g h = rw (g, h) refl
@@ -183,69 +184,69 @@ separator_other shape end m ev rs n ops t ts g h = rw (g, h) refl
 abbrev At : Shape → ℕ → Part → List Token → Result Line LineRefusal
 At shape end p ts = run shape end (done p) ts
 
-pub no_word : (shape : Shape) (end : ℕ) (m : Module) (ev : Event) (rs : List Request) (n : ℕ) (ops : List HandlerOp) (ts : List Token) (e : LineRefusal) → ts ≡ [] → e ≡ record { kind = Spelling; place = end } → At shape end (Operation m ev rs n ops) ts ≡ Err e
+pub no_word : (shape : Shape) (end : ℕ) (m : Module) (ev : Event) (rs : List Request) (n : Mark) (ops : List HandlerOp) (ts : List Token) (e : LineRefusal) → ts ≡ [] → e ≡ record { kind = Spelling; place = end } → At shape end (Operation m ev rs n ops) ts ≡ Err e
 no_word shape end m ev rs n ops ts e h k =
     let E : LineRefusal → Result Line LineRefusal = λ x. Err x in
     ap (At shape end (Operation m ev rs n ops)) h ∙ operation_end shape end m ev rs n ops ∙ ap E (sym k)
 
-op_taken : (shape : Shape) (end end2 : ℕ) (m : Module) (ev : Event) (rs : List Request) (n : ℕ) (ops : List HandlerOp) (ts : List Token) (t : Token) (more : List Token) (full : Bool) (r : Result (HandlerOp × List Token) LineRefusal)
+op_taken : (shape : Shape) (end end2 : ℕ) (m : Module) (ev : Event) (rs : List Request) (n : Mark) (ops : List HandlerOp) (ts : List Token) (t : Token) (more : List Token) (full : Bool) (r : Result (HandlerOp × List Token) LineRefusal)
     → ts ≡ t ∷ more → end2 ≡ end → full ≡ nat_le 8 (length ops) → read shape end2 (op_form m full) (t ∷ more) ≡ r
     → At shape end (Operation m ev rs n ops) ts ≡ AfterMapped shape end (λ op. Separator m ev rs n (ops ++ op ∷ [])) r
 op_taken shape end end2 m ev rs n ops ts t more full r h k f g =
     ap (At shape end (Operation m ev rs n ops)) h ∙ operation_token shape end m ev rs n ops t more
     ∙ ap (AfterMapped shape end (λ op. Separator m ev rs n (ops ++ op ∷ []))) (ap (λ (x : ℕ). read shape x (op_form m (nat_le 8 (length ops))) (t ∷ more)) (sym k) ∙ ap (λ (x : Bool). read shape end2 (op_form m x) (t ∷ more)) (sym f) ∙ g)
 
-pub op_refused : (shape : Shape) (end end2 : ℕ) (m : Module) (ev : Event) (rs : List Request) (n : ℕ) (ops : List HandlerOp) (ts : List Token) (t : Token) (more : List Token) (full : Bool) (e : LineRefusal)
+pub op_refused : (shape : Shape) (end end2 : ℕ) (m : Module) (ev : Event) (rs : List Request) (n : Mark) (ops : List HandlerOp) (ts : List Token) (t : Token) (more : List Token) (full : Bool) (e : LineRefusal)
     → ts ≡ t ∷ more → end2 ≡ end → full ≡ nat_le 8 (length ops) → read shape end2 (op_form m full) (t ∷ more) ≡ Err e
     → At shape end (Operation m ev rs n ops) ts ≡ Err e
 op_refused shape end end2 m ev rs n ops ts t more full e h k f g = op_taken shape end end2 m ev rs n ops ts t more full (Err e) h k f g
 
-pub op_read : (shape : Shape) (end end2 : ℕ) (m : Module) (ev : Event) (rs : List Request) (n : ℕ) (ops new : List HandlerOp) (ts : List Token) (t : Token) (more : List Token) (full : Bool) (op : HandlerOp) (rest : List Token)
+pub op_read : (shape : Shape) (end end2 : ℕ) (m : Module) (ev : Event) (rs : List Request) (n : Mark) (ops new : List HandlerOp) (ts : List Token) (t : Token) (more : List Token) (full : Bool) (op : HandlerOp) (rest : List Token)
     → ts ≡ t ∷ more → end2 ≡ end → full ≡ nat_le 8 (length ops) → read shape end2 (op_form m full) (t ∷ more) ≡ Ok (op, rest) → new ≡ ops ++ op ∷ []
     → At shape end (Operation m ev rs n ops) ts ≡ At shape end (Separator m ev rs n new) rest
 op_read shape end end2 m ev rs n ops new ts t more full op rest h k f g i =
     op_taken shape end end2 m ev rs n ops ts t more full (Ok (op, rest)) h k f g ∙ ap (λ (x : List HandlerOp). At shape end (Separator m ev rs n x) rest) (sym i)
 
-pub no_mark : (shape : Shape) (end end2 : ℕ) (m : Module) (ev : Event) (rs : List Request) (n : ℕ) (ops : List HandlerOp) (ts : List Token) (e : LineRefusal) → ts ≡ [] → end2 ≡ end → e ≡ record { kind = Spelling; place = end2 } → At shape end (Separator m ev rs n ops) ts ≡ Err e
+pub no_mark : (shape : Shape) (end end2 : ℕ) (m : Module) (ev : Event) (rs : List Request) (n : Mark) (ops : List HandlerOp) (ts : List Token) (e : LineRefusal) → ts ≡ [] → end2 ≡ end → e ≡ record { kind = Spelling; place = end2 } → At shape end (Separator m ev rs n ops) ts ≡ Err e
 no_mark shape end end2 m ev rs n ops ts e h q k =
     let E : LineRefusal → Result Line LineRefusal = λ x. Err x in
     let R : ℕ → LineRefusal = λ x. record { kind = Spelling; place = x } in
     ap (At shape end (Separator m ev rs n ops)) h ∙ separator_end shape end m ev rs n ops ∙ ap E (ap R (sym q) ∙ sym k)
 
-pub mark_semicolon : (shape : Shape) (end : ℕ) (m : Module) (ev : Event) (rs : List Request) (n : ℕ) (ops : List HandlerOp) (ts : List Token) (t : Token) (more : List Token) → ts ≡ t ∷ more → bytes_eq t.bytes (codes ";") ≡ true
+pub mark_semicolon : (shape : Shape) (end : ℕ) (m : Module) (ev : Event) (rs : List Request) (n : Mark) (ops : List HandlerOp) (ts : List Token) (t : Token) (more : List Token) → ts ≡ t ∷ more → bytes_eq t.bytes (codes ";") ≡ true
     → At shape end (Separator m ev rs n ops) ts ≡ At shape end (Operation m ev rs n ops) more
 mark_semicolon shape end m ev rs n ops ts t more h e = ap (At shape end (Separator m ev rs n ops)) h ∙ separator_semicolon shape end m ev rs n ops t more e
 
-pub mark_close : (shape : Shape) (end : ℕ) (m : Module) (ev : Event) (rs : List Request) (n : ℕ) (ops : List HandlerOp) (ts : List Token) (t : Token) (more : List Token) → ts ≡ t ∷ more → bytes_eq t.bytes (codes ";") ≡ false → bytes_eq t.bytes (codes "]") ≡ true
+pub mark_close : (shape : Shape) (end : ℕ) (m : Module) (ev : Event) (rs : List Request) (n : Mark) (ops : List HandlerOp) (ts : List Token) (t : Token) (more : List Token) → ts ≡ t ∷ more → bytes_eq t.bytes (codes ";") ≡ false → bytes_eq t.bytes (codes "]") ≡ true
     → At shape end (Separator m ev rs n ops) ts ≡ At shape end (Requests m ev (rs ++ request n ops ∷ [])) more
 mark_close shape end m ev rs n ops ts t more h g e = ap (At shape end (Separator m ev rs n ops)) h ∙ separator_close shape end m ev rs n ops t more g e
 
-pub mark_other : (shape : Shape) (end : ℕ) (m : Module) (ev : Event) (rs : List Request) (n : ℕ) (ops : List HandlerOp) (ts : List Token) (t : Token) (more : List Token) → ts ≡ t ∷ more → bytes_eq t.bytes (codes ";") ≡ false → bytes_eq t.bytes (codes "]") ≡ false
+pub mark_other : (shape : Shape) (end : ℕ) (m : Module) (ev : Event) (rs : List Request) (n : Mark) (ops : List HandlerOp) (ts : List Token) (t : Token) (more : List Token) → ts ≡ t ∷ more → bytes_eq t.bytes (codes ";") ≡ false → bytes_eq t.bytes (codes "]") ≡ false
     → At shape end (Separator m ev rs n ops) ts ≡ refused Spelling t.place
 mark_other shape end m ev rs n ops ts t more h g e = ap (At shape end (Separator m ev rs n ops)) h ∙ separator_other shape end m ev rs n ops t more g e
 
 pub continues_err : {X : Type 0} (r : Result X LineRefusal) (more : X → Result Line LineRefusal) (all : Result Line LineRefusal) (e : LineRefusal) → r ≡ Err e → all ≡ Err e → Continues r more all
 continues_err r more all e h k = subst (λ x. Continues x more all) (sym h) k
 
-pub close_taken : (shape : Shape) (end : ℕ) (m : Module) (ev : Event) (rs : List Request) (n : ℕ) (ts rest : List Token) (b : Bool) (ops : List HandlerOp) → b ≡ first_is (codes "]") ts → b ≡ true → rest ≡ (if b then behind ts else ts) → ops ≡ []
+pub close_taken : (shape : Shape) (end : ℕ) (m : Module) (ev : Event) (rs : List Request) (n : Mark) (ts rest : List Token) (b : Bool) (ops : List HandlerOp) → b ≡ first_is (codes "]") ts → b ≡ true → rest ≡ (if b then behind ts else ts) → ops ≡ []
     → At shape end (Open m ev rs n) ts ≡ At shape end (Requests m ev (rs ++ request n ops ∷ [])) rest
 close_taken shape end m ev rs n ts rest b ops w is r o =
     let same : rest ≡ behind ts = r ∙ rw is refl in
     open_close shape end m ev rs n ts (sym w ∙ is) ∙ rw (same, o) refl
 
-pub not_closed : (shape : Shape) (end : ℕ) (m : Module) (ev : Event) (rs : List Request) (n : ℕ) (ts rest : List Token) (b : Bool) (ops : List HandlerOp) → b ≡ first_is (codes "]") ts → b ≡ false → rest ≡ (if b then behind ts else ts) → ops ≡ []
+pub not_closed : (shape : Shape) (end : ℕ) (m : Module) (ev : Event) (rs : List Request) (n : Mark) (ts rest : List Token) (b : Bool) (ops : List HandlerOp) → b ≡ first_is (codes "]") ts → b ≡ false → rest ≡ (if b then behind ts else ts) → ops ≡ []
     → At shape end (Operation m ev rs n ops) rest ≡ At shape end (Open m ev rs n) rest
 not_closed shape end m ev rs n ts rest b ops w is r o =
     let same : rest ≡ ts = r ∙ rw is refl in
     rw (same, o) (sym (open_op shape end m ev rs n ts (sym w ∙ is)))
 
-pub open_taken : (shape : Shape) (end : ℕ) (m : Module) (ev : Event) (rs : List Request) (n : ℕ) (ts rest : List Token) (b : Bool) → b ≡ first_is (codes "[") ts → b ≡ true → rest ≡ (if b then behind ts else ts)
+pub open_taken : (shape : Shape) (end : ℕ) (m : Module) (ev : Event) (rs : List Request) (n : Mark) (ts rest : List Token) (b : Bool) → b ≡ first_is (codes "[") ts → b ≡ true → rest ≡ (if b then behind ts else ts)
     → At shape end (Handler m ev rs n) ts ≡ At shape end (Open m ev rs n) rest
 open_taken shape end m ev rs n ts rest b w is r =
     let same : rest ≡ behind ts = r ∙ rw is refl in
     handler_open shape end m ev rs n ts (sym w ∙ is) ∙ rw same refl
 
-pub not_opened : (shape : Shape) (end : ℕ) (m : Module) (ev : Event) (rs : List Request) (n : ℕ) (ts rest : List Token) (b : Bool) (ops : List HandlerOp) → b ≡ first_is (codes "[") ts → b ≡ false → rest ≡ (if b then behind ts else ts) → ops ≡ []
+pub not_opened : (shape : Shape) (end : ℕ) (m : Module) (ev : Event) (rs : List Request) (n : Mark) (ts rest : List Token) (b : Bool) (ops : List HandlerOp) → b ≡ first_is (codes "[") ts → b ≡ false → rest ≡ (if b then behind ts else ts) → ops ≡ []
     → At shape end (Handler m ev rs n) ts ≡ At shape end (Requests m ev (rs ++ request n ops ∷ [])) rest
 not_opened shape end m ev rs n ts rest b ops w is r o =
     let same : rest ≡ ts = r ∙ rw is refl in
@@ -254,13 +255,13 @@ not_opened shape end m ev rs n ts rest b ops w is r o =
 pub continues_same : {X : Type 0} (r : Result X LineRefusal) (more : X → Result Line LineRefusal) (all other : Result Line LineRefusal) → all ≡ other → Continues r more other → Continues r more all
 continues_same r more all other h k = subst (Continues r more) (sym h) k
 
-pub last_offset_more : (rs : List Request) (n : ℕ) (ops : List HandlerOp) → last_offset (rs ++ request n ops ∷ []) ≡ n
+pub last_offset_more : (rs : List Request) (n : Mark) (ops : List HandlerOp) → last_offset (rs ++ request n ops ∷ []) ≡ n.offset
 last_offset_more [] n ops = refl
 last_offset_more (r ∷ []) n ops = refl
 last_offset_more (r ∷ s ∷ rs) n ops = last_offset_more (s ∷ rs) n ops
 
 -- a mark is taken, or refused
-pub mark_taken : (shape : Shape) (end : ℕ) (m : Module) (ev : Event) (rs : List Request) (ts : List Token) (t : Token) (more : List Token) (last count n : ℕ) → ts ≡ t ∷ more → last ≡ last_offset rs → count ≡ length rs
+pub mark_taken : (shape : Shape) (end : ℕ) (m : Module) (ev : Event) (rs : List Request) (ts : List Token) (t : Token) (more : List Token) (last count : ℕ) (n : Mark) → ts ≡ t ∷ more → last ≡ last_offset rs → count ≡ length rs
     → at_place t.place (mark_at last count t.bytes) ≡ Ok n → At shape end (Requests m ev rs) ts ≡ At shape end (Handler m ev rs n) more
 mark_taken shape end m ev rs ts t more last count n h l c k =
     let same : at_place t.place (mark_at (last_offset rs) (length rs) t.bytes) ≡ Ok n = rw (← l, ← c) k in

@@ -17,7 +17,7 @@ use Rattle.mt_port.specs.Board.{IsWithinLimits}
 use Rattle.mt_text.specs.Tokens.{is_word, begins_word, is_digit, is_hex, hex_digit, hex, hex_of, number_of, point, parts, both as both_numbers, spot_of}
 use Rattle.mt_text.specs.Digits.{digit_byte, hex_text, word_text}
 use Rattle.mt_text.specs.Canonical.{spot_text, bit_text}
-use Rattle.mt_text.specs.Forms.{Num, Addr, FlashAddr, OtherAddr, Data, Bit, RamSpot, OtherSpot, FlashSpot}
+use Rattle.mt_text.specs.Forms.{Num, Addr, FlashAddr, OtherAddr, Data, Bit, RamSpot, OtherSpot, FlashSpot, mark_byte}
 use Rattle.mt_text.specs.Accepted.{IsNumber}
 use Rattle.mt_text.proofs.Numbers.{both, number_of_text, text_begins_word, text_digits}
 use Rattle.mt_text.proofs.Pieces.{is_text}
@@ -56,8 +56,9 @@ decimal_words n lt = all_more is_digit is_word (decimal n) digit_is_word (text_d
 pub decimal_is_text : (n : ℕ) → n < 2 ^ 32 → is_text (decimal n) ≡ true
 decimal_is_text n lt = text_of_words (decimal n) (decimal_nonempty n (wide n lt)) (decimal_words n lt)
 
-pub mark_is_text : (n : ℕ) → n < 2 ^ 32 → is_text (64 ∷ decimal n) ≡ true
-mark_is_text n lt = decimal_words n lt
+pub mark_is_text : (urgent : Bool) (n : ℕ) → n < 2 ^ 32 → is_text (mark_byte urgent ∷ decimal n) ≡ true
+mark_is_text true n lt = decimal_words n lt
+mark_is_text false n lt = decimal_words n lt
 
 -- ---- hexadecimal digits
 

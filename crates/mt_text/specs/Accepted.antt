@@ -1,5 +1,5 @@
 -- The lines that a reader gives and that a writer takes.
-use Rattle.std.specs.Prelude.{false, ◌≡◌, ℕ, ◌<◌, ◌≤◌, ◌^◌, List, [], length, All, Option, Some, None}
+use Rattle.std.specs.Prelude.{◌≡◌, ℕ, ◌<◌, ◌≤◌, ◌^◌, List, [], length, All, Option, Some, None}
 use Rattle.mt_word.specs.Word.{Fits}
 use Rattle.mt_fault.specs.Placement.{IsSpot, IsWellPlaced}
 use Rattle.mt_port.specs.declared.board.Shape.{Shape}
@@ -60,10 +60,9 @@ abbrev pub IsFor : Module → HandlerOp → Type 0
 IsFor callee (op.App op) = Unit {0}
 IsFor callee (op.Call call) = (module_of call ≡ callee) × IsHandlerCall call
 
--- An offset of 32 bits and at most 8 operations, whose calls are of this module. No line has a mark for an urgent request.
+-- an offset of 32 bits and at most 8 operations, whose calls are of this module
 pub record IsRequest (callee : Module) (request : Request) : Type 0 where
   pub number : IsNumber request.offset
-  pub mark : request.urgent ≡ false
   pub few : length request.ops.items ≤ 8
   pub calls : All (IsFor callee) request.ops.items
 

@@ -23,6 +23,7 @@ use Rattle.mt_text.specs.declared.names.RamService.{RamService}
 use Rattle.mt_text.specs.declared.names.RamService.TheVariants as ram_service
 use Rattle.mt_text.specs.declared.names.FlsService.{FlsService}
 use Rattle.mt_text.specs.declared.names.FlsService.TheVariants as fls_service
+use Rattle.mt_text.specs.Forms.{mark_byte}
 use Rattle.mt_text.specs.RamServices.{ram_name}
 use Rattle.mt_text.specs.FlsServices.{fls_name}
 use Rattle.mt_text.specs.Digits.{word_text}
@@ -194,7 +195,7 @@ handler_pieces width (o ∷ ops) = piece false (codes "[") ∷ words false (op_w
 
 -- a request: its mark and offset in one word, and its handler
 abbrev pub request_pieces : Width → Request → List Piece
-request_pieces width request = piece true (64 ∷ decimal request.offset) ∷ handler_pieces width request.ops.items
+request_pieces width request = piece true (mark_byte request.urgent ∷ decimal request.offset) ∷ handler_pieces width request.ops.items
 
 -- requests, one after another
 abbrev pub requests_pieces : Width → List Request → List Piece

@@ -1,10 +1,11 @@
 -- Forms of lines: what may stand at each place, and which value comes of it.
-use Rattle.std.specs.Prelude.{◌≡◌, ℕ, ◌^◌, ◌==◌, nat_lt, nat_le, not, Bool, true, false, if◌then◌else◌, List, [], ◌∷◌, drop, codes, Option, Some, None, Result, Ok, Err}
+use Rattle.std.specs.Prelude.{◌≡◌, ℕ, ◌^◌, ◌==◌, ◌||◌, nat_lt, nat_le, not, Bool, true, false, if◌then◌else◌, List, [], ◌∷◌, drop, codes, Option, Some, None, Result, Ok, Err}
 use Rattle.std.specs.Str.{bytes_eq}
 use Rattle.mt_text.specs.Tokens.{Token, begins_word, number_of, hex_of, spot_of}
 use Rattle.mt_port.specs.declared.board.Shape.{Shape}
 use Rattle.mt_word.specs.Word.{width_bits}
 use Rattle.mt_fault.specs.declared.fault.Spot.{Spot}
+use Rattle.mt_text.specs.declared.request.Mark.{Mark}
 use Rattle.mt_text.specs.declared.line.LineKind.{LineKind}
 use Rattle.mt_text.specs.declared.line.LineKind.TheVariants.{Spelling, Number, Address, WordTooWide, OffsetsFall, TooManyRequests, FaultRefused}
 use Rattle.mt_text.specs.declared.line.LineRefusal.{LineRefusal}
@@ -33,7 +34,7 @@ pub data Form (X : Type 0) : Type 0 where
   barred : List ℕ → LineKind → Form X → Form X → Form X
   value : Slot → (ℕ → Form X) → Form X
   spot : SpotSlot → (Spot → Form X) → Form X
-  mark : ℕ → ℕ → (ℕ → Form X) → Form X
+  mark : ℕ → ℕ → (Mark → Form X) → Form X
 
 -- the rules that a test breaks, else what the later ones say
 abbrev pub broken_if : {A : Type 0} → Bool → LineKind → Result A LineKind → Result A LineKind
@@ -57,19 +58,30 @@ word_at shape (OtherAddr a) bytes = spelled (number_of bytes) (λ n. broken_if (
 word_at shape Data bytes = spelled (hex_of bytes) (λ n. broken_if (not (nat_lt n (2 ^ width_bits shape.width))) WordTooWide (Ok n))
 word_at shape Bit bytes = spelled (bit_of bytes) (λ n. Ok n)
 
+-- the byte of a mark: `!` where the request is urgent, else `@`
+abbrev pub mark_byte : Bool → ℕ
+mark_byte true = 33
+mark_byte false = 64
+
 -- a request's mark is first
 abbrev pub begins_mark : List ℕ → Bool
 begins_mark [] = false
-begins_mark (b ∷ bs) = b == 64
+begins_mark (b ∷ bs) = b == mark_byte false || b == mark_byte true
+
+-- the mark of an urgent request is first
+abbrev pub begins_urgent : List ℕ → Bool
+begins_urgent [] = false
+begins_urgent (b ∷ bs) = b == mark_byte true
 
 -- at a value's place every word is of the kind, and at a request's place every word that begins with a mark
 abbrev pub value_at : Shape → Slot → List ℕ → Result ℕ LineKind
 value_at shape slot bytes = if begins_word bytes then word_at shape slot bytes else Err Spelling
 
--- a word in the place of a request: its offset, or the least rule that it breaks
-abbrev pub mark_at : ℕ → ℕ → List ℕ → Result ℕ LineKind
+-- a word in the place of a request: its mark, or the least rule that it breaks
+abbrev pub mark_at : ℕ → ℕ → List ℕ → Result Mark LineKind
 mark_at last count bytes =
-    if begins_mark bytes then spelled (number_of (drop 1 bytes)) (λ n. broken_if (nat_lt n last) OffsetsFall (broken_if (nat_le 16 count) TooManyRequests (Ok n)))
+    if begins_mark bytes then spelled (number_of (drop 1 bytes)) (λ n.
+    broken_if (nat_lt n last) OffsetsFall (broken_if (nat_le 16 count) TooManyRequests (Ok (record { offset = n; urgent = begins_urgent bytes }))))
     else Err Spelling
 
 -- a spot that is spelled: itself, or the least later rule that it breaks, its word before its bit
@@ -153,7 +165,7 @@ mapped f (row word form more) = row word (mapped f form) (mapped f more)
 mapped f (barred word kind form more) = barred word kind (mapped f form) (mapped f more)
 mapped f (value slot form) = value slot (λ n. mapped f (form n))
 mapped f (spot slot form) = spot slot (λ s. mapped f (form s))
-mapped f (mark last count form) = mark last count (λ n. mapped f (form n))
+mapped f (mark last count form) = mark last count (λ k. mapped f (form k))
 
 -- a form behind a word, or a rule that the word breaks with what follows it
 pub data Entry (X : Type 0) : Type 0 where

@@ -2,6 +2,7 @@
 use Rattle.std.specs.Prelude.{◌≡◌, ℕ, Bool, true, false, List, [], ◌∷◌, Some}
 use Rattle.std.specs.Str.{bytes_eq}
 use Rattle.mt_fault.specs.declared.fault.Spot.{Spot}
+use Rattle.mt_text.specs.declared.request.Mark.{Mark}
 use Rattle.mt_text.specs.declared.line.Line.{Line}
 use Rattle.mt_text.specs.Tokens.{Token, begins_word}
 use Rattle.mt_text.specs.Forms.{Form, done, none, row, barred, value, spot, mark, begins_mark}
@@ -20,7 +21,7 @@ Allows (row word form more) bytes next = Either (bytes_eq bytes word) (form ≡ 
 Allows (barred word kind form more) bytes next = Either (bytes_eq bytes word) (form ≡ next) (Allows more bytes next)
 Allows (value slot form) bytes next = (begins_word bytes ≡ true) × ((n : ℕ) × (form n ≡ next))
 Allows (spot slot form) bytes next = (begins_word bytes ≡ true) × ((s : Spot) × (form s ≡ next))
-Allows (mark last count form) bytes next = (begins_mark bytes ≡ true) × ((n : ℕ) × (form n ≡ next))
+Allows (mark last count form) bytes next = (begins_mark bytes ≡ true) × ((k : Mark) × (form k ≡ next))
 
 -- each token is of its kind, and the line may end behind the last
 unfoldable pub GoesOn : Form Part → List (List ℕ) → Type 0

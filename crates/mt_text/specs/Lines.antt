@@ -6,6 +6,7 @@ use Rattle.mt_text.specs.Forms.{Form, done, none, row, barred, value, spot, Addr
 use Rattle.mt_text.specs.RamServices.{ram_call, ram_handler_call}
 use Rattle.mt_text.specs.FlsServices.{fls_call, fls_handler_call}
 use Rattle.mt_port.specs.declared.board.Shape.{Shape}
+use Rattle.mt_text.specs.declared.request.Mark.{Mark}
 use Rattle.mt_text.specs.declared.line.LineKind.{LineKind}
 use Rattle.mt_text.specs.declared.line.LineKind.TheVariants.{Spelling, TooManyOps, NotInHandler}
 use Rattle.mt_text.specs.declared.line.LineRefusal.{LineRefusal}
@@ -87,8 +88,8 @@ op_form RamTst false = row (codes "ram") (mapped Call ram_handler_call) (barred 
 op_form FlsTst false = barred (codes "ram") NotInHandler (mapped Call ram_handler_call) (row (codes "fls") (mapped Call fls_handler_call) (mapped AppIn app_op))
 
 -- a request
-abbrev pub request : ℕ → List HandlerOp → Request
-request offset ops = record { offset = offset; urgent = false; ops = record { items = ops } }
+abbrev pub request : Mark → List HandlerOp → Request
+request k ops = record { offset = k.offset; urgent = k.urgent; ops = record { items = ops } }
 
 -- a line
 abbrev pub line : Event → List Request → Line
@@ -115,10 +116,10 @@ pub data Part : Type 0 where
   Start : Part
   Ended : Event → Part
   Requests : Module → Event → List Request → Part
-  Handler : Module → Event → List Request → ℕ → Part
-  Open : Module → Event → List Request → ℕ → Part
-  Operation : Module → Event → List Request → ℕ → List HandlerOp → Part
-  Separator : Module → Event → List Request → ℕ → List HandlerOp → Part
+  Handler : Module → Event → List Request → Mark → Part
+  Open : Module → Event → List Request → Mark → Part
+  Operation : Module → Event → List Request → Mark → List HandlerOp → Part
+  Separator : Module → Event → List Request → Mark → List HandlerOp → Part
 
 -- requests may follow where the event has a module that runs
 abbrev pub followed : Event → Option Module → Part
@@ -131,29 +132,29 @@ follows ev = followed ev (running_module ev)
 
 -- a further request
 abbrev pub request_form : Module → Event → List Request → Form Part
-request_form m ev rs = mark (last_offset rs) (length rs) (λ n. done (Handler m ev rs n))
+request_form m ev rs = mark (last_offset rs) (length rs) (λ k. done (Handler m ev rs k))
 
 -- a further operation of a handler
-abbrev pub operation_form : Module → Event → List Request → ℕ → List HandlerOp → Form Part
-operation_form m ev rs n ops = mapped (λ op. Separator m ev rs n (ops ++ op ∷ [])) (op_form m (nat_le 8 (length ops)))
+abbrev pub operation_form : Module → Event → List Request → Mark → List HandlerOp → Form Part
+operation_form m ev rs k ops = mapped (λ op. Separator m ev rs k (ops ++ op ∷ [])) (op_form m (nat_le 8 (length ops)))
 
 -- what may stand there next
 abbrev pub part_form : Part → Form Part
 part_form Start = mapped follows event
 part_form (Ended ev) = none
 part_form (Requests m ev rs) = request_form m ev rs
-part_form (Handler m ev rs n) = row (codes "[") (done (Open m ev rs n)) (request_form m ev (rs ++ request n [] ∷ []))
-part_form (Open m ev rs n) = row (codes "]") (done (Requests m ev (rs ++ request n [] ∷ []))) (operation_form m ev rs n [])
-part_form (Operation m ev rs n ops) = operation_form m ev rs n ops
-part_form (Separator m ev rs n ops) =
-    row (codes ";") (done (Operation m ev rs n ops)) (row (codes "]") (done (Requests m ev (rs ++ request n ops ∷ []))) none)
+part_form (Handler m ev rs k) = row (codes "[") (done (Open m ev rs k)) (request_form m ev (rs ++ request k [] ∷ []))
+part_form (Open m ev rs k) = row (codes "]") (done (Requests m ev (rs ++ request k [] ∷ []))) (operation_form m ev rs k [])
+part_form (Operation m ev rs k ops) = operation_form m ev rs k ops
+part_form (Separator m ev rs k ops) =
+    row (codes ";") (done (Operation m ev rs k ops)) (row (codes "]") (done (Requests m ev (rs ++ request k ops ∷ []))) none)
 
 -- the line, where it may end there
 abbrev pub whole : Part → Option Line
 whole Start = Some (line Nothing [])
 whole (Ended ev) = Some (line ev [])
 whole (Requests m ev rs) = Some (line ev rs)
-whole (Handler m ev rs n) = Some (line ev (rs ++ request n [] ∷ []))
+whole (Handler m ev rs k) = Some (line ev (rs ++ request k [] ∷ []))
 whole _ = None
 
 -- the same of a form
@@ -199,9 +200,9 @@ Continues (Ok x) more all = all ≡ more x
 Continues (Err e) more all = all ≡ Err e
 
 -- behind an operation and the token after it
-abbrev pub behind_op : Bool → Module → Event → List Request → ℕ → List HandlerOp → Part
-behind_op true m ev rs n ops = Requests m ev (rs ++ request n ops ∷ [])
-behind_op false m ev rs n ops = Operation m ev rs n ops
+abbrev pub behind_op : Bool → Module → Event → List Request → Mark → List HandlerOp → Part
+behind_op true m ev rs k ops = Requests m ev (rs ++ request k ops ∷ [])
+behind_op false m ev rs k ops = Operation m ev rs k ops
 
 -- what a function returned
 abbrev pub Comes : Result Line LineRefusal → Result Line LineRefusal → Type 0

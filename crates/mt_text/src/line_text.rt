@@ -45,7 +45,7 @@ fn push_request(out: &mut LineText, width: Width, request: &Request)
     ensures text { out.new.items ≡ out.old.items ++ text_of (request_pieces width request.now) }
     ensures short { length out.new.items ≤ length out.old.items + 358 }
 {
-    push_bytes(out, b" @");
+    push_bytes(out, if request.urgent { b" !" } else { b" @" });
     push_number(out, request.offset);
     push_handler(out, width, request.ops.as_slice());
 }

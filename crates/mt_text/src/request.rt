@@ -2,8 +2,9 @@
 
 ghost use Rattle.std.specs.Prelude.{◌≡◌, false, ◌<◌, ◌≤◌, ◌++◌, ◌∷◌, [], ℕ, List, length, IfOk};
 ghost use Rattle.mt_text.specs.Tokens.{begins_word};
-ghost use Rattle.mt_text.specs.Forms.{at_place, mark_at, done, begins_mark};
+ghost use Rattle.mt_text.specs.Forms.{at_place, mark_at, done, begins_mark, begins_urgent};
 ghost use Rattle.mt_text.specs.Lines.{run, Continues, Requests, Handler, Operation, Open, behind_op, request, last_offset, line};
+ghost use Rattle.mt_text.specs.declared.request.Mark.{Mark};
 ghost use Rattle.mt_text.specs.declared.line.Event.{Event};
 ghost use Rattle.mt_port.specs.declared.request.Request.{Request};
 ghost use Rattle.mt_text.specs.Cursors.{left, end_of, token_view, no_token};
@@ -16,17 +17,33 @@ use crate::value::{is, refused};
 use arrayvec::ArrayVec;
 use mt_port::{HandlerOp, Module, Request, Shape};
 
+/// The mark of a request.
+#[derive(Clone, Copy)]
+pub struct Mark {
+    pub offset: u32,
+    pub urgent: bool,
+}
+
 fn begins_mark(token: &Token<'_>) -> bool
     ensures { result ≡ begins_mark token.now.bytes.now }
 {
     match token.bytes {
         [] => false,
-        [byte, ..] => *byte == b'@',
+        [byte, ..] => *byte == b'@' || *byte == b'!',
     }
 }
 
-/// The offset that a mark spells, behind requests of which there are so many.
-fn offset(token: &Token<'_>, last: u32, count: usize) -> Result<u32, LineRefusal>
+fn begins_urgent(token: &Token<'_>) -> bool
+    ensures { result ≡ begins_urgent token.now.bytes.now }
+{
+    match token.bytes {
+        [] => false,
+        [byte, ..] => *byte == b'!',
+    }
+}
+
+/// The mark that a token is, behind requests of which there are so many.
+fn read_mark(token: &Token<'_>, last: u32, count: usize) -> Result<Mark, LineRefusal>
     ensures value { result ≡ at_place token.now.place (mark_at last count token.now.bytes.now) }
     ensures few { IfOk result (λ _. count < 16) }
 {
@@ -35,14 +52,17 @@ fn offset(token: &Token<'_>, last: u32, count: usize) -> Result<u32, LineRefusal
     }
     match number_of(&token.bytes[1..]) {
         None => refused(LineKind::Number, token.place),
-        Some(n) => {
-            if n < last {
+        Some(offset) => {
+            if offset < last {
                 return refused(LineKind::OffsetsFall, token.place);
             }
             if count >= 16 {
                 return refused(LineKind::TooManyRequests, token.place);
             }
-            Ok(n)
+            Ok(Mark {
+                offset,
+                urgent: begins_urgent(token),
+            })
         }
     }
 }
@@ -55,7 +75,7 @@ fn operation(
     cursor: &mut Cursor<'_>,
 ) -> Result<bool, LineRefusal>
     requires { length ops.old.items ≤ 8 }
-    ensures value { (ev : Event) (rs : List Request) (n : ℕ) → Continues result (λ ended. run shape (end_of cursor.old) (done (behind_op ended callee ev rs n ops.new.items)) (left cursor.new)) (run shape (end_of cursor.old) (done (Operation callee ev rs n ops.old.items)) (left cursor.old)) }
+    ensures value { (ev : Event) (rs : List Request) (k : Mark) → Continues result (λ ended. run shape (end_of cursor.old) (done (behind_op ended callee ev rs k ops.new.items)) (left cursor.new)) (run shape (end_of cursor.old) (done (Operation callee ev rs k ops.old.items)) (left cursor.old)) }
     ensures end { end_of cursor.new ≡ end_of cursor.old }
     ensures shorter { IfOk result (λ _. length (left cursor.new) < length (left cursor.old)) }
     ensures few { length ops.new.items ≤ 8 }
@@ -80,7 +100,7 @@ fn handler(
     shape: Shape,
     cursor: &mut Cursor<'_>,
 ) -> Result<ArrayVec<HandlerOp, 8>, LineRefusal>
-    ensures value { (ev : Event) (rs : List Request) (n : ℕ) → Continues result (λ ops. run shape (end_of cursor.old) (done (Requests callee ev (rs ++ request n ops.items ∷ []))) (left cursor.new)) (run shape (end_of cursor.old) (done (Open callee ev rs n)) (left cursor.old)) }
+    ensures value { (ev : Event) (rs : List Request) (k : Mark) → Continues result (λ ops. run shape (end_of cursor.old) (done (Requests callee ev (rs ++ request k ops.items ∷ []))) (left cursor.new)) (run shape (end_of cursor.old) (done (Open callee ev rs k)) (left cursor.old)) }
     ensures end { end_of cursor.new ≡ end_of cursor.old }
     ensures shorter { IfOk result (λ _. length (left cursor.new) ≤ length (left cursor.old)) }
 {
@@ -101,7 +121,7 @@ fn handler_if_any(
     shape: Shape,
     cursor: &mut Cursor<'_>,
 ) -> Result<ArrayVec<HandlerOp, 8>, LineRefusal>
-    ensures value { (ev : Event) (rs : List Request) (n : ℕ) → Continues result (λ ops. run shape (end_of cursor.old) (done (Requests callee ev (rs ++ request n ops.items ∷ []))) (left cursor.new)) (run shape (end_of cursor.old) (done (Handler callee ev rs n)) (left cursor.old)) }
+    ensures value { (ev : Event) (rs : List Request) (k : Mark) → Continues result (λ ops. run shape (end_of cursor.old) (done (Requests callee ev (rs ++ request k ops.items ∷ []))) (left cursor.new)) (run shape (end_of cursor.old) (done (Handler callee ev rs k)) (left cursor.old)) }
     ensures end { end_of cursor.new ≡ end_of cursor.old }
     ensures shorter { IfOk result (λ _. length (left cursor.new) ≤ length (left cursor.old)) }
 {
@@ -130,12 +150,12 @@ pub fn one_request(
     ensures shorter { IfOk result (λ _. length (left cursor.new) < length (left cursor.old)) }
 {
     let word = cursor.next()?;
-    let offset = offset(&word, last, requests.len())?;
+    let mark = read_mark(&word, last, requests.len())?;
     let ops = handler_if_any(callee, shape, cursor)?;
     requests.push(Request {
-        offset,
-        urgent: false,
+        offset: mark.offset,
+        urgent: mark.urgent,
         ops,
     });
-    Ok(offset)
+    Ok(mark.offset)
 }

@@ -25,6 +25,7 @@ const REFUSED: &str = "1 1 Foo
 1 5 tick
 1 6 tick foo
 1 6 tick ram@1
+1 6 tick ram!1
 1 6 heal now
 1 1 ;# x
 1 1 [
@@ -40,6 +41,7 @@ const REFUSED: &str = "1 1 Foo
 2 7 app r 00
 2 7 app r ram
 2 7 app r @5
+2 7 app r !5
 2 9 app w 0 g
 2 9 app w 0 00000000000000000
 3 7 app r 10
@@ -82,6 +84,7 @@ const REFUSED: &str = "1 1 Foo
 1 5 flip
 3 6 flip 0.0
 1 10 ram Init @5
+1 10 ram Init !5
 1 19 ram GetTestResult @1
 1 11 fls Abort @1
 1 10 tick ram 5
@@ -92,15 +95,28 @@ const REFUSED: &str = "1 1 Foo
 2 10 tick ram @05
 2 10 tick ram @1@2
 2 10 tick ram @4294967296
+2 10 tick ram !
+2 10 tick ram ! 5
+2 10 tick ram !x
+2 10 tick ram !05
+2 10 tick ram !@5
+2 10 tick ram @!5
+2 10 tick ram @1!2
+2 10 tick ram !4294967296
 5 13 tick ram @9 @5
 5 13 tick ram @9 @5[x]
 5 15 tick ram @2[] @1
 5 16 tick ram @1 @9 @5
+5 13 tick ram @9 !5
+5 13 tick ram !9 @5
+5 16 tick ram !1 @9 !5
 6 58 tick ram @1 @1 @1 @1 @1 @1 @1 @1 @1 @1 @1 @1 @1 @1 @1 @1 @1
 5 58 tick ram @1 @1 @1 @1 @1 @1 @1 @1 @1 @1 @1 @1 @1 @1 @1 @1 @0
 2 58 tick ram @1 @1 @1 @1 @1 @1 @1 @1 @1 @1 @1 @1 @1 @1 @1 @1 @x
+6 58 tick ram @1 !1 @1 !1 @1 !1 @1 !1 @1 !1 @1 !1 @1 !1 @1 !1 !1
 1 13 tick ram @5[
 1 13 tick ram @5[;
+1 13 tick ram !5[;
 1 13 tick ram @5[x]
 1 13 tick fls @1[app r 1]
 1 14 tick ram @5[][]
@@ -121,6 +137,7 @@ const REFUSED: &str = "1 1 Foo
 8 17 tick ram @5[ram SelectAlgParams x]
 8 13 tick ram @5[fls Abort]
 8 13 tick ram @5[fls Foo]
+8 13 tick ram !5[fls Foo]
 8 13 tick fls @5[ram Stop]
 8 17 tick fls @5[fls StartFgnd 0]
 8 20 fls StartFgnd 0 @1[ram Stop]
@@ -186,19 +203,26 @@ flip 3.7|flip 3.7
 tick ram @0|tick ram @0
 tick ram @5[]|tick ram @5
 tick ram @9 @9|tick ram @9 @9
+tick ram !0|tick ram !0
+tick ram !5[]|tick ram !5
+tick ram @9 !9 @9|tick ram @9 !9 @9
 tick  ram @5 [ w 3 C4;r 3 ]@7[]|tick ram @5[w 3 c4; r 3] @7
+tick  ram !5 [ w 3 C4;r 3 ]@7[]!7|tick ram !5[w 3 c4; r 3] @7 !7
 tick ram @1[r 0]@2[r 1]|tick ram @1[r 0] @2[r 1]
 tick fls @1[fls Abort;fls GetCurrentState]|tick fls @1[fls Abort; fls GetCurrentState]
 tick fls @1[fls Suspend ; fls Resume]|tick fls @1[fls Suspend; fls Resume]
 tick fls @1[fls GetTestResultBgnd]|tick fls @1[fls GetTestResultBgnd]
 tick fls @1[fls GetTestResultFgnd]|tick fls @1[fls GetTestResultFgnd]
+tick fls !1[fls GetTestResultFgnd]|tick fls !1[fls GetTestResultFgnd]
 ram RunFullTest @0[ram Stop]|ram RunFullTest @0[ram Stop]
 ram RunPartialTest 5 @1[ram GetTestResult]|ram RunPartialTest 5 @1[ram GetTestResult]
 fls StartFgnd 1 @4294967295|fls StartFgnd 1 @4294967295
+fls StartFgnd 1 !4294967295|fls StartFgnd 1 !4294967295
 tick ram @1[add 1 2;copy 3 4;f 3]|tick ram @1[add 1 02; copy 3 4; f 3]
 tick ram @1[ram Allow;ram Suspend;ram Resume;ram GetExecutionStatus;ram GetTestResultPerBlock 63]|tick ram @1[ram Allow; ram Suspend; ram Resume; ram GetExecutionStatus; ram GetTestResultPerBlock 63]
 tick ram @1[r 0;r 1;r 2;r 3;r 4;r 5;r 6;r 7]|tick ram @1[r 0; r 1; r 2; r 3; r 4; r 5; r 6; r 7]
 tick ram @1 @1 @1 @1 @1 @1 @1 @1 @1 @1 @1 @1 @1 @1 @1 @2|tick ram @1 @1 @1 @1 @1 @1 @1 @1 @1 @1 @1 @1 @1 @1 @1 @2
+tick ram !1 !1 !1 !1 !1 !1 !1 !1 @1 @1 @1 @1 @1 @1 @1 !2|tick ram !1 !1 !1 !1 !1 !1 !1 !1 @1 @1 @1 @1 @1 @1 @1 !2
 ";
 
 /// Entries of line 7 where words have 8 bits, with their trace lines.
@@ -373,7 +397,7 @@ fn refused_lines(rt: HostRuntime) {
         assert!(rt; is_refused_so(row, shape(Width::W8, 0)));
         count = count.wrapping_add(1);
     }
-    assert_eq!(rt; count, 117);
+    assert_eq!(rt; count, 134);
     assert!(rt; is_refused(b"tick  ", shape(Width::W8, 0), 1, 7));
     assert!(rt; is_refused(b"burn 0 100", shape(Width::W8, 4), 4, 8));
     assert!(rt; is_refused(b"flip 0.8", shape(Width::W8, 4), 9, 6));
@@ -386,7 +410,7 @@ fn spelled_lines(rt: HostRuntime) {
         assert!(rt; is_spelled_so(row, shape(Width::W8, 4)));
         count = count.wrapping_add(1);
     }
-    assert_eq!(rt; count, 72);
+    assert_eq!(rt; count, 79);
     assert!(rt; is_spelled(b"app w 0 C4", shape(Width::W16, 0), b"app w 0 00c4"));
     assert!(rt;
         is_spelled(

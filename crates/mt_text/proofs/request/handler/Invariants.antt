@@ -1,4 +1,5 @@
 use Rattle.std.proofs.Common.{◌≡◌, ◌≤◌, ◌+◌, true, false, Bool, List, ℕ, length}
+use Rattle.mt_text.specs.declared.request.Mark.{Mark}
 use Rattle.mt_text.specs.Cursors.{left, end_of}
 use Rattle.mt_text.specs.Forms.{done}
 use Rattle.mt_text.specs.Lines.{run, behind_op, Open}
@@ -12,7 +13,7 @@ to_do false n = n + 1
 
 abbrev pub invariant-loop-ended : goal.invariant-loop-ended
 invariant-loop-ended l = record {
-  same : (ev : Event) (rs : List Request) (n : ℕ) → run l.shape (end_of l.cursor) (done (behind_op l.ended l.callee ev rs n l.ops.items)) (left l.cursor) ≡ run l.shape (end_of l.initial.cursor) (done (Open l.callee ev rs n)) (left l.initial.cursor);
+  same : (ev : Event) (rs : List Request) (n : Mark) → run l.shape (end_of l.cursor) (done (behind_op l.ended l.callee ev rs n l.ops.items)) (left l.cursor) ≡ run l.shape (end_of l.initial.cursor) (done (Open l.callee ev rs n)) (left l.initial.cursor);
   end : end_of l.cursor ≡ end_of l.initial.cursor;
   shorter : length (left l.cursor) ≤ length (left l.initial.cursor);
   few : length l.ops.items ≤ 8;
