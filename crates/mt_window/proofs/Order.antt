@@ -1,13 +1,14 @@
 -- Requests are served in the order of their line, and none is left.
-use Rattle.std.proofs.Common.{ℕ, ◌+◌, ◌-◌, ◌≡◌, Bool, true, false, cond, leb, List, [], ◌∷◌, ◌++◌, drop, map, Option, Some, None, refl, sym, ap, ◌∙◌, append_assoc, append-nil}
+use Rattle.std.proofs.Common.{ℕ, ◌+◌, ◌-◌, ◌≡◌, Bool, true, false, cond, leb, List, [], ◌∷◌, ◌++◌, drop, map, Option, Some, None, refl, sym, ap, ◌∙◌, append_assoc, append-nil, length, arith}
 use Rattle.mt_port.specs.declared.request.Request.{Request}
 use Rattle.mt_port.specs.declared.request.HandlerOp.{HandlerOp}
 use Rattle.mt_window.specs.declared.log.Entry.{Entry}
 use Rattle.mt_window.specs.declared.log.Entry.TheVariants.{Served, Inner, Own}
 use Rattle.mt_window.specs.Serving.{Table, Scene, scene, operated, operated_all, reply_by, served, due_served, left_served, begun}
-use Rattle.mt_window.specs.Slices.{Tests, sequenced, tested, failed_after, slices}
-use Rattle.mt_window.specs.Events.{opened, entered, ran, event}
+use Rattle.mt_window.specs.Slices.{Tests, Trail, scene_behind, after_attempt, slices}
+use Rattle.mt_window.specs.Events.{Running, opened, entered, ran, returned, event}
 use Rattle.mt_window.specs.Waits.{kinds, line_kinds, RequestsAreInOrder, NoneIsLeft}
+use Rattle.mt_window.specs.Kept.{cond_case, slices-keeps}
 use Rattle.mt_window.proofs.Serving.{operated_all-keeps}
 
 kinds-append : (xs ys : List Entry) → kinds (xs ++ ys) ≡ kinds xs ++ kinds ys
@@ -68,34 +69,66 @@ left_served-none : {C : Type 0} (t : Table C) (rs : List Request) (s : Scene C) 
 left_served-none t [] s e = e
 left_served-none t (r ∷ rs) s e = left_served-none t rs (served t r 0 s) (served-rest t r rs 0 s e)
 
-slices-total : {C X V : Type 0} (t : Tests C X V) (L : List X) (failed : Bool) (s : Scene C) → total (slices t L failed s) ≡ total s
-slices-total t [] failed s = refl
-slices-total {C} t (x ∷ more) failed s =
-    let mid : Scene C = scene (sequenced t s.callee x s.board) (t.taken s.callee x (t.verdict s.callee x s.board) failed) s.log in
-    of (t.stops s.callee) (slices-total t more (failed_after t failed s x) (tested t failed s x) ∙ due_served-total t.table s.board.left mid refl)
+slices-total : {C X V : Type 0} (t : Tests C X V) (L : List X) (g : Trail C) → total (slices t L g).scene ≡ total g.scene
+slices-total {C} {X} {V} t L g = slices-keeps t (λ (h : Trail C). total h.scene ≡ total g.scene) step L g refl
   where
-    of : (b : Bool) → total (slices t more (failed_after t failed s x) (tested t failed s x)) ≡ total s
-        → total (cond b s (slices t more (failed_after t failed s x) (tested t failed s x))) ≡ total s
-    of true h = refl
-    of false h = h
+    step : (may : Bool) (x : X) (h : Trail C) → total h.scene ≡ total g.scene → total (after_attempt t may h x).scene ≡ total g.scene
+    step may x h e = (let mid = scene_behind t may h x in due_served-total t.table mid.board.left mid refl ∙ e)
+
+-- how many are taken and left
+due_served-taken : {C : Type 0} (t : Table C) (rs : List Request) (s : Scene C) → s.board.left ≡ rs
+    → (due_served t rs s).board.taken + length (due_served t rs s).board.left ≡ s.board.taken + length s.board.left
+due_served-taken t [] s e = refl
+due_served-taken {C} t (r ∷ rs) s e =
+    let w = s.board.count - r.offset in
+    let z = served t r w s in
+    let left : z.board.left ≡ rs = served-rest t r rs w s e in
+    let k : z.board.taken ≡ s.board.taken + 1 = (operated_all-keeps t r.ops.items _).taken in
+    let next : (due_served t rs z).board.taken + length (due_served t rs z).board.left ≡ z.board.taken + length z.board.left = due_served-taken t rs z left in
+    cond_case (λ (x : Scene C). x.board.taken + length x.board.left ≡ s.board.taken + length s.board.left) (leb r.offset s.board.count) (due_served t rs z) s
+    (omega (arith, next, k, ap (λ (l : List Request). length l) left, ap (λ (l : List Request). length l) e)) refl
+
+left_served-taken : {C : Type 0} (t : Table C) (rs : List Request) (s : Scene C) → s.board.left ≡ rs
+    → (left_served t rs s).board.taken ≡ s.board.taken + length rs
+left_served-taken t [] s e = omega arith
+left_served-taken t (r ∷ rs) s e =
+    let z = served t r 0 s in
+    let k : z.board.taken ≡ s.board.taken + 1 = (operated_all-keeps t r.ops.items _).taken in
+    omega (arith, left_served-taken t rs z (served-rest t r rs 0 s e), k)
+
+slices-taken : {C X V : Type 0} (t : Tests C X V) (L : List X) (g : Trail C)
+    → (slices t L g).scene.board.taken + length (slices t L g).scene.board.left ≡ g.scene.board.taken + length g.scene.board.left
+slices-taken {C} {X} {V} t L g =
+    slices-keeps t (λ (h : Trail C). h.scene.board.taken + length h.scene.board.left ≡ g.scene.board.taken + length g.scene.board.left) step L g refl
+  where
+    step : (may : Bool) (x : X) (h : Trail C) → h.scene.board.taken + length h.scene.board.left ≡ g.scene.board.taken + length g.scene.board.left
+        → (after_attempt t may h x).scene.board.taken + length (after_attempt t may h x).scene.board.left ≡ g.scene.board.taken + length g.scene.board.left
+    step may x h e = (let mid = scene_behind t may h x in due_served-taken t.table mid.board.left mid refl ∙ e)
+
+event-left : {C X V : Type 0} (r : Running C X V) (s : Scene C) → (event r s).after.board.left ≡ []
+event-left r s =
+    let o = opened r s in
+    let z = (ran r o).scene in
+    left_served-none r.tests.table z.board.left (returned r o z) refl
 
 pub event-none_left : {C X V : Type 0} → NoneIsLeft C X V
-event-none_left r s =
+event-none_left {C} r s =
     let o = opened r s in
-    let z = ran r o in
-    left_served-none r.tests.table z.board.left (scene z.board (r.back o.callee z.callee) z.log) refl
+    let z = (ran r o).scene in
+    let first : Scene C = scene s.board (r.cleared s.callee) s.log in
+    let a : o.board.taken + length o.board.left ≡ s.board.taken + length s.board.left = due_served-taken r.tests.table s.board.left first refl in
+    let b : z.board.taken + length z.board.left ≡ o.board.taken + length o.board.left = slices-taken r.tests (r.work o.callee) (entered r o) in
+    record { none = event-left r s; taken = left_served-taken r.tests.table z.board.left (returned r o z) refl ∙ b ∙ a }
 
 pub event-order : {C X V : Type 0} → RequestsAreInOrder C X V
 event-order {C} r s empty =
     let o = opened r s in
-    let z = ran r o in
-    let last : Scene C = scene z.board (r.back o.callee z.callee) z.log in
+    let z = (ran r o).scene in
     let first : Scene C = scene s.board (r.cleared s.callee) s.log in
     let after = (event r s).after in
-    let none : after.board.left ≡ [] = event-none_left r s in
     sym (append-nil (kinds after.log))
-    ∙ sym (ap (λ (l : List Request). kinds after.log ++ line_kinds (after.board.taken + 1) l) none)
-    ∙ left_served-total r.tests.table z.board.left last refl
-    ∙ slices-total r.tests (r.work o.callee) false (entered r o)
+    ∙ sym (ap (λ (l : List Request). kinds after.log ++ line_kinds (after.board.taken + 1) l) (event-left r s))
+    ∙ left_served-total r.tests.table z.board.left (returned r o z) refl
+    ∙ slices-total r.tests (r.work o.callee) (entered r o)
     ∙ due_served-total r.tests.table s.board.left first refl
     ∙ ap (λ (l : List Entry). kinds l ++ line_kinds (s.board.taken + 1) s.board.left) empty

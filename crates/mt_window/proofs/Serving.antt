@@ -8,12 +8,11 @@ use Rattle.std.specs.Prelude.{All}
 use Rattle.mt_port.specs.declared.request.Request.{Request}
 use Rattle.mt_port.specs.declared.request.Due.{Due}
 use Rattle.mt_port.specs.declared.request.HandlerOp.{HandlerOp}
-use Rattle.mt_port.specs.declared.request.HandlerOp.TheVariants.{App, Call}
-use Rattle.mt_port.specs.declared.request.HandlerCall.{HandlerCall}
 use Rattle.mt_port.specs.declared.request.Module.{Module}
 use Rattle.mt_port.specs.Board.{Board, AreOrdered, first_due, first_left, after_take}
 use Rattle.mt_window.specs.declared.log.Entry.TheVariants.{Served, Inner}
-use Rattle.mt_window.specs.Serving.{Table, Scene, operated, operated_all, reply_by, callee_by, begun, served, due_served, left_served, cost, IsReady, IsSoundHandlerOp}
+use Rattle.mt_window.specs.Kept.{cond_case}
+use Rattle.mt_window.specs.Serving.{Table, Scene, operated, operated_all, reply_by, begun, served, due_served, left_served, cost, IsReady, IsSoundHandlerOp}
 
 -- one more operation
 pub operated_all-step : {C : Type 0} (t : Table C) (ops : List HandlerOp) (i : ℕ) (d : HandlerOp) (s s' : Scene C) → i < length ops
@@ -162,10 +161,6 @@ served-stays t r w s =
     (record (s.board) { left = drop 1 s.board.left; taken = s.board.taken + 1 }) s.callee s.log) in
     record { shape = k.shape; fault = k.fault; flash = k.flash; held = k.held; count = k.count }
 
-pub cond_case : {X : Type 0} (P : X → Type 0) (b : Bool) (x y : X) → P x → P y → P (cond b x y)
-cond_case P true x y p q = p
-cond_case P false x y p q = q
-
 pub due_served-stays : {C : Type 0} (t : Table C) (rs : List Request) (s : Scene C) → Stays s (due_served t rs s)
 due_served-stays t [] s = Stays-refl s
 due_served-stays {C} t (r ∷ rs) s =
@@ -176,29 +171,3 @@ due_served-stays {C} t (r ∷ rs) s =
 pub left_served-stays : {C : Type 0} (t : Table C) (rs : List Request) (s : Scene C) → Stays s (left_served t rs s)
 left_served-stays t [] s = Stays-refl s
 left_served-stays t (r ∷ rs) s = Stays-trans (served-stays t r 0 s) (left_served-stays t rs (served t r 0 s))
-
--- A relation that each row of the table keeps is kept by the serving of requests.
-pub record IsKept {C : Type 0} (t : Table C) (R : C → C → Type 0) : Type 0 where
-  pub none : (c : C) → R c c
-  pub both : (a b c : C) → R a b → R b c → R a c
-  pub row : (c : C) (call : HandlerCall) → R c (t.next c call)
-
-pub operated_all-moves : {C : Type 0} (t : Table C) (R : C → C → Type 0) → IsKept t R → (ops : List HandlerOp) (s : Scene C) → R s.callee ((operated_all t ops s).callee)
-operated_all-moves t R k [] s = k.none s.callee
-operated_all-moves {C} t R k (op ∷ ops) s = k.both s.callee ((operated t s op).callee) _ (one op) (operated_all-moves t R k ops (operated t s op))
-  where
-    one : (op : HandlerOp) → R s.callee (callee_by t s.callee op)
-    one (App op) = k.none s.callee
-    one (Call call) = k.row s.callee call
-
-pub due_served-moves : {C : Type 0} (t : Table C) (R : C → C → Type 0) → IsKept t R → (rs : List Request) (s : Scene C) → R s.callee ((due_served t rs s).callee)
-due_served-moves t R k [] s = k.none s.callee
-due_served-moves {C} t R k (r ∷ rs) s =
-    let z = served t r (s.board.count - r.offset) s in
-    cond_case (λ (x : Scene C). R s.callee x.callee) (leb r.offset s.board.count) (due_served t rs z) s
-    (k.both s.callee z.callee _ (operated_all-moves t R k r.ops.items _) (due_served-moves t R k rs z)) (k.none s.callee)
-
-pub left_served-moves : {C : Type 0} (t : Table C) (R : C → C → Type 0) → IsKept t R → (rs : List Request) (s : Scene C) → R s.callee ((left_served t rs s).callee)
-left_served-moves t R k [] s = k.none s.callee
-left_served-moves t R k (r ∷ rs) s =
-    k.both s.callee ((served t r 0 s).callee) _ (operated_all-moves t R k r.ops.items _) (left_served-moves t R k rs (served t r 0 s))

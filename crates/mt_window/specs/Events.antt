@@ -3,7 +3,7 @@ use Rattle.std.specs.Prelude.{ℕ, false, List}
 use Rattle.mt_port.specs.declared.board.Touch.{Touch}
 use Rattle.mt_window.specs.declared.reply.Reply.{Reply}
 use Rattle.mt_window.specs.Serving.{Scene, scene, serve_due, serve_left}
-use Rattle.mt_window.specs.Slices.{Tests, Attempt, slices, touches, attempts}
+use Rattle.mt_window.specs.Slices.{Tests, Attempt, Trail, slices, started}
 
 -- How a module answers a running call.
 pub record Running (C X V : Type 0) : Type 0 where
@@ -28,13 +28,13 @@ pub record Outcome (C : Type 0) : Type 0 where
 abbrev pub opened : {C X V : Type 0} → Running C X V → Scene C → Scene C
 opened r s = serve_due r.tests.table (scene s.board (r.cleared s.callee) s.log)
 
--- the module looks at its state
-abbrev pub entered : {C X V : Type 0} → Running C X V → Scene C → Scene C
-entered r o = scene o.board (r.inside o.callee) o.log
+-- the module looks at its state, and its test begins
+abbrev pub entered : {C X V : Type 0} → Running C X V → Scene C → Trail C
+entered r o = started false (scene o.board (r.inside o.callee) o.log)
 
 -- the slices, from just after boundary 0
-abbrev pub ran : {C X V : Type 0} → Running C X V → Scene C → Scene C
-ran r o = slices r.tests (r.work o.callee) false (entered r o)
+abbrev pub ran : {C X V : Type 0} → Running C X V → Scene C → Trail C
+ran r o = slices r.tests (r.work o.callee) (entered r o)
 
 -- after the last boundary the module goes back
 abbrev pub returned : {C X V : Type 0} → Running C X V → Scene C → Scene C → Scene C
@@ -46,19 +46,15 @@ closed r o z = serve_left r.tests.table (returned r o z)
 
 -- the event, from just after boundary 0
 abbrev pub event_from : {C X V : Type 0} → Running C X V → Scene C → Outcome C
-event_from r o = record { after = closed r o (ran r o); reply = r.reply o.callee ((ran r o).board.count) }
+event_from r o = record { after = closed r o (ran r o).scene; reply = r.reply o.callee ((ran r o).scene.board.count) }
 
 -- the event
 abbrev pub event : {C X V : Type 0} → Running C X V → Scene C → Outcome C
 event r s = event_from r (opened r s)
 
--- its test accesses, from just after boundary 0
-abbrev pub touches_from : {C X V : Type 0} → Running C X V → Scene C → List Touch
-touches_from r o = touches r.tests (r.work o.callee) false (entered r o)
-
--- all of them, and the attempts at its slices
+-- its test accesses, and the attempts at its slices
 abbrev pub event_touches : {C X V : Type 0} → Running C X V → Scene C → List Touch
-event_touches r s = touches_from r (opened r s)
+event_touches r s = (ran r (opened r s)).touches
 
 abbrev pub event_attempts : {C X V : Type 0} → Running C X V → Scene C → List Attempt
-event_attempts r s = attempts r.tests (r.work ((opened r s).callee)) false (entered r (opened r s))
+event_attempts r s = (ran r (opened r s)).attempts

@@ -114,3 +114,8 @@ pub record IsReady (kind : Module) (b : Board) (log : List Entry) : Type 0 where
   pub room : length log + cost b.left ≤ 256
   pub sound : All (λ r. All (IsSoundHandlerOp b.shape kind) r.ops.items) b.left
   pub ordered : AreOrdered b.left
+
+-- between events no request is left, and interrupts are free
+pub record IsIdle (b : Board) : Type 0 where
+  pub none : b.left ≡ []
+  pub free : b.held ≡ false

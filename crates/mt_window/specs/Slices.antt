@@ -1,8 +1,15 @@
--- Slices that a module tests one after another, with a boundary at the end of each.
-use Rattle.std.specs.Prelude.{ℕ, ◌+◌, Bool, List, [], ◌∷◌, ◌++◌, if◌then◌else◌}
+-- Slices that a module tests one after another, each by attempts, with a boundary at the end of each attempt.
+use Rattle.std.specs.Prelude.{ℕ, zero, suc, ◌+◌, Bool, true, false, List, [], ◌∷◌, ◌++◌, Option, Some, None, is_some, if◌then◌else◌}
 use Rattle.mt_port.specs.declared.board.Touch.{Touch}
 use Rattle.mt_port.specs.Board.{Board}
 use Rattle.mt_window.specs.Serving.{Table, Scene, scene, serve_due}
+
+-- an attempt at a slice: the words after it, its test accesses and how many they are, and its verdict, none where it was dropped
+pub record Tried (V : Type 0) : Type 0 where
+  pub words : List ℕ
+  pub count : ℕ
+  pub touches : List Touch
+  pub verdict : Option V
 
 -- How a module C tests slices of a kind X, where a sequence has a verdict of a kind V.
 pub record Tests (C X V : Type 0) : Type 0 where
@@ -10,51 +17,83 @@ pub record Tests (C X V : Type 0) : Type 0 where
   pub table : Table C
   -- whether it goes no further
   pub stops : C → Bool
-  -- the sequence of a slice: the words after it, its length, its verdict, and its accesses
-  pub words : C → X → Board → List ℕ
+  -- how often an attempt at a slice may be dropped in one event
+  pub retries : C → ℕ
+  -- how many accesses the whole sequence of a slice has
   pub hold : C → X → ℕ
-  pub verdict : C → X → Board → V
-  pub touches : C → X → Board → List Touch
+  -- how many words an attempt that may be dropped writes back; none where no attempt at the slice is ever dropped
+  pub restores : C → X → Option ℕ
+  -- an attempt at a slice, which may be dropped or not
+  pub attempt : Bool → C → X → Board → Tried V
   -- the module at the end of a slice with a verdict, where a slice of this test failed before or not
   pub taken : C → X → V → Bool → C
   -- whether a slice of this test failed, from then on
   pub failed : X → V → Bool → Bool
 
--- the board after the sequence of a slice, all of whose accesses were made under one hold
-abbrev pub sequenced : {C X V : Type 0} → Tests C X V → C → X → Board → Board
-sequenced t c x b = record b { words = t.words c x b; count = b.count + t.hold c x; since = b.count }
-
--- one slice: its sequence, what its end leaves of the module, and its boundary
-abbrev pub tested : {C X V : Type 0} → Tests C X V → Bool → Scene C → X → Scene C
-tested t failed s x =
-    serve_due t.table (scene (sequenced t s.callee x s.board) (t.taken s.callee x (t.verdict s.callee x s.board) failed) s.log)
-
--- whether a slice of the test failed, after this one
-abbrev pub failed_after : {C X V : Type 0} → Tests C X V → Bool → Scene C → X → Bool
-failed_after t failed s x = t.failed x (t.verdict s.callee x s.board) failed
-
--- slices in their order, as long as the module goes on
-abbrev pub slices : {C X V : Type 0} → Tests C X V → List X → Bool → Scene C → Scene C
-slices t [] failed s = s
-slices t (x ∷ more) failed s = if t.stops s.callee then s else slices t more (failed_after t failed s x) (tested t failed s x)
-
--- their test accesses
-abbrev pub touches : {C X V : Type 0} → Tests C X V → List X → Bool → Scene C → List Touch
-touches t [] failed s = []
-touches t (x ∷ more) failed s =
-    if t.stops s.callee then [] else t.touches s.callee x s.board ++ touches t more (failed_after t failed s x) (tested t failed s x)
-
--- an attempt at a slice: the count of test accesses at its end, and how many it made
+-- an attempt that was made: the count at its end, how many accesses it made, and where it might be dropped how many words it writes back
 pub record Attempt : Type 0 where
   pub finish : ℕ
   pub hold : ℕ
+  pub restores : Option ℕ
 
--- the attempts at one slice: the whole sequence
-abbrev pub attempts_at : {C X V : Type 0} → Tests C X V → Scene C → X → List Attempt
-attempts_at t s x = record { finish = s.board.count + t.hold s.callee x; hold = t.hold s.callee x } ∷ []
+-- what an event has come to: the board, the module and the entries; whether a slice of this test failed; the test accesses and the
+-- attempts so far
+pub record Trail (C : Type 0) : Type 0 where
+  pub scene : Scene C
+  pub failed : Bool
+  pub touches : List Touch
+  pub attempts : List Attempt
 
--- the attempts at slices
-abbrev pub attempts : {C X V : Type 0} → Tests C X V → List X → Bool → Scene C → List Attempt
-attempts t [] failed s = []
-attempts t (x ∷ more) failed s =
-    if t.stops s.callee then [] else attempts_at t s x ++ attempts t more (failed_after t failed s x) (tested t failed s x)
+-- the board after an attempt, all of whose accesses were made under one hold
+abbrev pub attempted : {V : Type 0} → Tried V → Board → Board
+attempted a b = record b { words = a.words; count = b.count + a.count; since = b.count }
+
+-- what the end of an attempt leaves: a dropped one leaves the module as it is
+abbrev pub taken_by : {C X V : Type 0} → Tests C X V → C → X → Bool → Option V → C
+taken_by t c x failed None = c
+taken_by t c x failed (Some verdict) = t.taken c x verdict failed
+
+abbrev pub failed_by : {C X V : Type 0} → Tests C X V → X → Bool → Option V → Bool
+failed_by t x failed None = failed
+failed_by t x failed (Some verdict) = t.failed x verdict failed
+
+-- the attempt that is made next, and how it is kept
+abbrev pub next_attempt : {C X V : Type 0} → Tests C X V → Bool → Trail C → X → Tried V
+next_attempt t may g x = t.attempt may g.scene.callee x g.scene.board
+
+abbrev pub kept_attempt : {C X V : Type 0} → Tests C X V → Bool → Trail C → X → Attempt
+kept_attempt t may g x = record {
+  finish = g.scene.board.count + (next_attempt t may g x).count;
+  hold = (next_attempt t may g x).count;
+  restores = if may then t.restores g.scene.callee x else None;
+}
+
+-- the scene at the end of an attempt, before its boundary
+abbrev pub scene_behind : {C X V : Type 0} → Tests C X V → Bool → Trail C → X → Scene C
+scene_behind t may g x =
+    scene (attempted (next_attempt t may g x) g.scene.board) (taken_by t g.scene.callee x g.failed (next_attempt t may g x).verdict) g.scene.log
+
+-- one attempt, what its end leaves of the module, and its boundary
+abbrev pub after_attempt : {C X V : Type 0} → Tests C X V → Bool → Trail C → X → Trail C
+after_attempt t may g x = record {
+  scene = serve_due t.table (scene_behind t may g x);
+  failed = failed_by t x g.failed (next_attempt t may g x).verdict;
+  touches = g.touches ++ (next_attempt t may g x).touches;
+  attempts = g.attempts ++ kept_attempt t may g x ∷ [];
+}
+
+-- the attempts at a slice, of which so many may be dropped: up to the first that isn't, as long as the module goes on
+abbrev pub tried : {C X V : Type 0} → Tests C X V → ℕ → X → Trail C → Trail C
+tried t zero x g = if t.stops g.scene.callee then g else after_attempt t false g x
+tried t (suc n) x g =
+    if t.stops g.scene.callee then g
+    else (if is_some (next_attempt t true g x).verdict then after_attempt t true g x else tried t n x (after_attempt t true g x))
+
+-- slices in their order
+abbrev pub slices : {C X V : Type 0} → Tests C X V → List X → Trail C → Trail C
+slices t [] g = g
+slices t (x ∷ more) g = slices t more (tried t (t.retries g.scene.callee) x g)
+
+-- a test begins, where a slice of it failed before or not
+abbrev pub started : {C : Type 0} → Bool → Scene C → Trail C
+started failed s = record { scene = s; failed = failed; touches = []; attempts = [] }

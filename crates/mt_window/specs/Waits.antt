@@ -1,37 +1,88 @@
--- How long requests wait, and in which order they are served.
-use Rattle.std.specs.Prelude.{ℕ, ◌+◌, ◌<◌, ◌≤◌, ◌≡◌, ◌⊎◌, List, [], ◌∷◌, ◌++◌, map, length, slice_index_or, All, Option, Some, None}
+-- Where requests are served and how long they wait, and in which order.
+use Rattle.std.specs.Prelude.{ℕ, ◌+◌, ◌-◌, ◌<◌, ◌≤◌, ◌≡◌, ◌⊎◌, Bool, true, false, nat_le, List, [], ◌∷◌, ◌++◌, map, filter, find, length, All, Any, Option, Some, None}
 use Rattle.mt_port.specs.declared.request.Request.{Request}
 use Rattle.mt_port.specs.declared.request.HandlerOp.{HandlerOp}
 use Rattle.mt_port.specs.Board.{Board, AreOrdered}
 use Rattle.mt_window.specs.declared.log.Entry.{Entry}
 use Rattle.mt_window.specs.declared.log.Entry.TheVariants.{Served, Inner, Own}
 use Rattle.mt_window.specs.Serving.{Scene, cost}
-use Rattle.mt_window.specs.Slices.{Attempt}
+use Rattle.mt_window.specs.Slices.{Tests, Attempt}
 use Rattle.mt_window.specs.Events.{Running, event, event_attempts}
 
-abbrev pub no_attempt : Attempt
-no_attempt = record { finish = 0; hold = 0 }
+-- an event begins: nothing is entered and no test access made, and the offsets of its requests never fall
+pub record IsFresh {C : Type 0} (s : Scene C) : Type 0 where
+  pub empty : s.log ≡ []
+  pub start : s.board.count ≡ 0
+  pub ordered : AreOrdered s.board.left
 
--- one of the attempts ended at the request's place, and the wait is below its length
-pub record Meets (made : List Attempt) (place wait : ℕ) : Type 0 where
-  pub which : ℕ
-  pub one : which < length made
-  pub finish : (slice_index_or made which no_attempt).finish ≡ place
-  pub below : wait < (slice_index_or made which no_attempt).hold
+-- the boundaries of an event: 0, and the end of each attempt
+abbrev pub boundaries : List Attempt → List ℕ
+boundaries made = 0 ∷ map (λ (a : Attempt). a.finish) made
 
--- a request's wait is 0, or below the length of the attempt that it meets
+-- the first boundary that an offset doesn't exceed
+abbrev pub first_boundary : List Attempt → ℕ → Option ℕ
+first_boundary made offset = find (λ boundary. nat_le offset boundary) (boundaries made)
+
+-- a request that is served at a boundary, or at the end of an event with so many test accesses
+abbrev pub served_at : Option ℕ → ℕ → ℕ → ℕ → Entry
+served_at None last number offset = Served number last 0
+served_at (Some place) last number offset = Served number place (place - offset)
+
+-- how the requests of a line are served, the first of which has the number n
+abbrev pub line_served : List Attempt → ℕ → ℕ → List Request → List Entry
+line_served made last n [] = []
+line_served made last n (r ∷ rs) = served_at (first_boundary made r.offset) last n r.offset ∷ line_served made last (n + 1) rs
+
+-- the entries of requests, without those of their operations
+abbrev pub is_service : Entry → Bool
+is_service (Served number place wait) = true
+is_service (Inner reply) = false
+is_service (Own reply) = false
+
+abbrev pub services : List Entry → List Entry
+services log = filter is_service log
+
+-- each request of an event is served at the first boundary that its offset doesn't exceed, or else with no wait at the event's end
+abbrev pub PlacesAreByOffset : (C X V : Type 0) → Type 0
+PlacesAreByOffset C X V = (r : Running C X V) (s : Scene C) → IsFresh s
+    → services ((event r s).after.log) ≡ line_served (event_attempts r s) ((event r s).after.board.count) (s.board.taken + 1) s.board.left
+
+-- a request's wait is 0, or below the length of the attempt that it meets: the one that ends at its place
 abbrev pub IsShort : List Attempt → Entry → Type 0
-IsShort made (Served number place wait) = (wait ≡ 0) ⊎ Meets made place wait
+IsShort made (Served number place wait) = (wait ≡ 0) ⊎ Any (λ (a : Attempt). (a.finish ≡ place) × (wait < a.hold)) made
 IsShort made (Inner reply) = Unit {0}
 IsShort made (Own reply) = Unit {0}
 
 -- each wait of an event of this call is so
 abbrev pub WaitsAreShortIn : {C X V : Type 0} → Running C X V → Type 0
-WaitsAreShortIn {C} r =
-    (s : Scene C) → s.log ≡ [] → s.board.count ≡ 0 → AreOrdered s.board.left → All (IsShort (event_attempts r s)) ((event r s).after.log)
+WaitsAreShortIn {C} r = (s : Scene C) → IsFresh s → All (IsShort (event_attempts r s)) ((event r s).after.log)
 
 abbrev pub WaitsAreShort : (C X V : Type 0) → Type 0
 WaitsAreShort C X V = (r : Running C X V) → WaitsAreShortIn r
+
+-- Where attempts are dropped in time: from each board whose requests left are all to come, an attempt that may be dropped ends at
+-- most as many accesses after an urgent request falls due as it writes words back.
+abbrev pub DropsInTime : {C X V : Type 0} → Tests C X V → Type 0
+DropsInTime {C} {X} t = (c : C) (x : X) (b : Board) (n : ℕ) → t.restores c x ≡ Some n → All (λ (q : Request). b.count < q.offset) b.left
+    → All (λ (q : Request). q.urgent ≡ true → b.count + (t.attempt true c x b).count ≤ q.offset + n) b.left
+
+-- a request falls due in an attempt: above its first count, and at most at its end
+pub record FallsIn (a : Attempt) (q : Request) : Type 0 where
+  pub begun : a.finish < q.offset + a.hold
+  pub ended : q.offset ≤ a.finish
+
+-- it is then served at the attempt's end, with a wait of at most n
+pub record IsServedWithin (made : List Attempt) (q : Request) (a : Attempt) (n : ℕ) : Type 0 where
+  pub place : first_boundary made q.offset ≡ Some a.finish
+  pub soon : a.finish - q.offset ≤ n
+
+-- where attempts are dropped in time, an urgent request that meets one which might be dropped waits at most the words that it writes back
+abbrev pub UrgentWaitsAreShortIn : {C X V : Type 0} → Running C X V → Type 0
+UrgentWaitsAreShortIn {C} r = (s : Scene C) → IsFresh s → All (λ (q : Request). q.urgent ≡ true
+    → All (λ (a : Attempt). (n : ℕ) → a.restores ≡ Some n → FallsIn a q → IsServedWithin (event_attempts r s) q a n) (event_attempts r s)) s.board.left
+
+abbrev pub UrgentWaitsAreShort : (C X V : Type 0) → Type 0
+UrgentWaitsAreShort C X V = (r : Running C X V) → DropsInTime r.tests → UrgentWaitsAreShortIn r
 
 -- an entry without what it tells: the number of a request, or an operation of one
 abbrev pub kinds : List Entry → List (Option ℕ)
@@ -50,9 +101,13 @@ abbrev pub RequestsAreInOrder : (C X V : Type 0) → Type 0
 RequestsAreInOrder C X V =
     (r : Running C X V) (s : Scene C) → s.log ≡ [] → kinds ((event r s).after.log) ≡ line_kinds (s.board.taken + 1) s.board.left
 
--- none is left
+-- all are taken, and none is left
+pub record AreTaken (a b : Board) : Type 0 where
+  pub none : b.left ≡ []
+  pub taken : b.taken ≡ a.taken + length a.left
+
 abbrev pub NoneIsLeft : (C X V : Type 0) → Type 0
-NoneIsLeft C X V = (r : Running C X V) (s : Scene C) → (event r s).after.board.left ≡ []
+NoneIsLeft C X V = (r : Running C X V) (s : Scene C) → AreTaken s.board ((event r s).after.board)
 
 -- what an event leaves of the board
 pub record LeavesBoard (a b : Board) : Type 0 where

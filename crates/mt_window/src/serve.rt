@@ -19,18 +19,20 @@ pub trait Callee {
     /// The reply and the next state that its table gives for a state and a call.
     ghost table: { Table Self };
 
-    /// Whether two values have the same setting, which no call changes.
-    ghost same_setting: { Self → Self → Type 0 };
+    /// Its setting, which no call changes.
+    ghost Setting: { Type 0 };
+
+    ghost setting: { Self → Setting };
 
     /// One call of a handler.
     fn call(&mut self, call: HandlerCall) -> Reply
         requires { module_of call ≡ kind }
         ensures reply { result ≡ (table).reply self.old call }
         ensures next { self.new ≡ (table).next self.old call }
-        ensures setting { same_setting self.old self.new };
+        ensures setting { setting self.new ≡ setting self.old };
 
     /// The table leaves the setting.
-    ghost keeps_setting: { (c : Self) (call : HandlerCall) → same_setting c ((table).next c call) };
+    ghost keeps_setting: { (c : Self) (call : HandlerCall) → setting ((table).next c call) ≡ setting c };
 }
 
 // The reply to an operation of the application.
@@ -48,7 +50,9 @@ fn operate<P: Port, C: Callee>(port: &mut P, callee: &mut C, log: &mut EventLog,
     requires free { (P.state port.old).held ≡ false }
     requires sound { IsSoundHandlerOp (P.state port.old).shape C.kind op }
     requires room { length log.old < 256 }
-    ensures scene { scene (P.state port.new) callee.new log.new ≡ operated C.table (scene (P.state port.old) callee.old log.old) op }
+    ensures scene { scene (P.state port.new) callee.new log.new
+        ≡ operated C.table (scene (P.state port.old) callee.old log.old) op }
+    ensures setting { C.setting callee.new ≡ C.setting callee.old }
     ensures tape { P.tape port.new ≡ P.tape port.old }
 {
     match op {
@@ -73,7 +77,9 @@ fn operate_all<P: Port, C: Callee>(
     requires free { (P.state port.old).held ≡ false }
     requires sound { All (IsSoundHandlerOp (P.state port.old).shape C.kind) ops.now }
     requires room { length log.old + length ops.now ≤ 256 }
-    ensures scene { scene (P.state port.new) callee.new log.new ≡ operated_all C.table ops.now (scene (P.state port.old) callee.old log.old) }
+    ensures scene { scene (P.state port.new) callee.new log.new
+        ≡ operated_all C.table ops.now (scene (P.state port.old) callee.old log.old) }
+    ensures setting { C.setting callee.new ≡ C.setting callee.old }
     ensures tape { P.tape port.new ≡ P.tape port.old }
 {
     for op in ops {
@@ -92,7 +98,9 @@ fn serve_one<P: Port, C: Callee>(
     requires free { (P.state port.old).held ≡ false }
     requires sound { All (IsSoundHandlerOp (P.state port.old).shape C.kind) due.now.request.ops.items }
     requires room { length log.old + 1 + length due.now.request.ops.items ≤ 256 }
-    ensures scene { scene (P.state port.new) callee.new log.new ≡ operated_all C.table due.now.request.ops.items (begun due.now wait (P.state port.old) callee.old log.old) }
+    ensures scene { scene (P.state port.new) callee.new log.new
+        ≡ operated_all C.table due.now.request.ops.items (begun due.now wait (P.state port.old) callee.old log.old) }
+    ensures setting { C.setting callee.new ≡ C.setting callee.old }
     ensures tape { P.tape port.new ≡ P.tape port.old }
 {
     log.add(Entry::Served {
@@ -109,6 +117,7 @@ pub fn serve_due<P: Port, C: Callee>(port: &mut P, callee: &mut C, log: &mut Eve
     requires { IsReady C.kind (P.state port.old) log.old }
     ensures scene { scene (P.state port.new) callee.new log.new ≡ serve_due C.table (scene (P.state port.old) callee.old log.old) }
     ensures ready { IsReady C.kind (P.state port.new) log.new }
+    ensures setting { C.setting callee.new ≡ C.setting callee.old }
     ensures tape { P.tape port.new ≡ P.tape port.old }
 {
     while let Some(due) = port.take_due() {
@@ -123,6 +132,7 @@ pub fn serve_left<P: Port, C: Callee>(port: &mut P, callee: &mut C, log: &mut Ev
     ensures scene { scene (P.state port.new) callee.new log.new ≡ serve_left C.table (scene (P.state port.old) callee.old log.old) }
     ensures none { (P.state port.new).left ≡ [] }
     ensures ready { IsReady C.kind (P.state port.new) log.new }
+    ensures setting { C.setting callee.new ≡ C.setting callee.old }
     ensures tape { P.tape port.new ≡ P.tape port.old }
 {
     while let Some(due) = port.take_left() {

@@ -1,10 +1,10 @@
-use Rattle.mt_window.proofs.Waits.{event-waits}
+use Rattle.mt_window.proofs.Places.{event-places}
 use Rattle.mt_window.proofs.Events.{event-board}
 use Rattle.mt_window.proofs.Order.{event-order, event-none_left}
 use Rattle.mt_window.proofs.laws.requests_are_served.Goals as goal
 
-pub returns-clause-waits : goal.returns-clause-waits
-returns-clause-waits g c = event-waits
+pub returns-clause-places : goal.returns-clause-places
+returns-clause-places g c = event-places
 
 pub returns-clause-order : goal.returns-clause-order
 returns-clause-order g c = event-order

@@ -9,5 +9,6 @@ invariant-loop-op g l = record {
   room : length l.log + length l.ops ≤ 256 + l.op-index;
   same : operated_all g.C.Callee.table (drop l.op-index l.ops) (scene (g.P.Port.state l.port) l.callee l.log)
       ≡ operated_all g.C.Callee.table l.ops (scene (g.P.Port.state l.initial.port) l.initial.callee l.initial.log);
+  setting : g.C.Callee.setting l.callee ≡ g.C.Callee.setting l.initial.callee;
   tape : g.P.Port.tape l.port ≡ g.P.Port.tape l.initial.port;
 }

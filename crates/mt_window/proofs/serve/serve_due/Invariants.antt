@@ -7,6 +7,7 @@ invariant-loop-due g l = record {
   ready : IsReady g.C.Callee.kind (g.P.Port.state l.port) l.log;
   same : serve_due g.C.Callee.table (scene (g.P.Port.state l.port) l.callee l.log)
       ≡ serve_due g.C.Callee.table (scene (g.P.Port.state l.initial.port) l.initial.callee l.initial.log);
+  setting : g.C.Callee.setting l.callee ≡ g.C.Callee.setting l.initial.callee;
   tape : g.P.Port.tape l.port ≡ g.P.Port.tape l.initial.port;
 }
 

@@ -38,5 +38,6 @@ loop-due-preserved g c =
     record {
       ready = ready_step t g.C.Callee.kind a z due _ h e c.loop-due.invariant.ready;
       same = left_step t a z due h e ∙ c.loop-due.invariant.same;
+      setting = c.serve_one.ensures.setting ∙ c.loop-due.invariant.setting;
       tape = c.serve_one.ensures.tape ∙ c.in-Some.ensures.tape ∙ c.loop-due.invariant.tape;
     }

@@ -1,0 +1,90 @@
+-- Relations between a module before and after that each of its steps keeps: the serving of requests and events keep them too.
+-- These are lemmas for the crates above; no contract cites them.
+use Rattle.std.specs.Prelude.{ℕ, zero, suc, Bool, true, false, cond, is_some, List, [], ◌∷◌, ◌-◌, Option, Some, None, leb}
+use Rattle.mt_port.specs.declared.request.HandlerCall.{HandlerCall}
+use Rattle.mt_port.specs.declared.request.HandlerOp.{HandlerOp}
+use Rattle.mt_port.specs.declared.request.HandlerOp.TheVariants.{App, Call}
+use Rattle.mt_port.specs.declared.request.Request.{Request}
+use Rattle.mt_window.specs.Serving.{Table, Scene, scene, operated, operated_all, callee_by, served, due_served, left_served}
+use Rattle.mt_window.specs.Slices.{Tests, Trail, taken_by, next_attempt, scene_behind, after_attempt, tried, slices}
+use Rattle.mt_window.specs.Events.{Running, opened, entered, ran, returned, event}
+use Rattle.mt_window.specs.Rows.{Cell, by_row, CellKeeps}
+
+-- A relation that each row of the table keeps is kept by the serving of requests.
+pub record IsKept {C : Type 0} (t : Table C) (R : C → C → Type 0) : Type 0 where
+  pub none : (c : C) → R c c
+  pub both : (a b c : C) → R a b → R b c → R a c
+  pub row : (c : C) (call : HandlerCall) → R c (t.next c call)
+
+pub cond_case : {X : Type 0} (P : X → Type 0) (b : Bool) (x y : X) → P x → P y → P (cond b x y)
+cond_case P true x y p q = p
+cond_case P false x y p q = q
+
+pub operated_all-moves : {C : Type 0} (t : Table C) (R : C → C → Type 0) → IsKept t R → (ops : List HandlerOp) (s : Scene C) → R s.callee ((operated_all t ops s).callee)
+operated_all-moves t R k [] s = k.none s.callee
+operated_all-moves {C} t R k (op ∷ ops) s = k.both s.callee ((operated t s op).callee) _ (one op) (operated_all-moves t R k ops (operated t s op))
+  where
+    one : (op : HandlerOp) → R s.callee (callee_by t s.callee op)
+    one (App op) = k.none s.callee
+    one (Call call) = k.row s.callee call
+
+pub due_served-moves : {C : Type 0} (t : Table C) (R : C → C → Type 0) → IsKept t R → (rs : List Request) (s : Scene C) → R s.callee ((due_served t rs s).callee)
+due_served-moves t R k [] s = k.none s.callee
+due_served-moves {C} t R k (r ∷ rs) s =
+    let z = served t r (s.board.count - r.offset) s in
+    cond_case (λ (x : Scene C). R s.callee x.callee) (leb r.offset s.board.count) (due_served t rs z) s
+    (k.both s.callee z.callee _ (operated_all-moves t R k r.ops.items _) (due_served-moves t R k rs z)) (k.none s.callee)
+
+pub left_served-moves : {C : Type 0} (t : Table C) (R : C → C → Type 0) → IsKept t R → (rs : List Request) (s : Scene C) → R s.callee ((left_served t rs s).callee)
+left_served-moves t R k [] s = k.none s.callee
+left_served-moves t R k (r ∷ rs) s =
+    k.both s.callee ((served t r 0 s).callee) _ (operated_all-moves t R k r.ops.items _) (left_served-moves t R k rs (served t r 0 s))
+
+-- what each attempt keeps is kept by slices
+pub tried-keeps : {C X V : Type 0} (t : Tests C X V) (P : Trail C → Type 0) → ((may : Bool) (x : X) (g : Trail C) → P g → P (after_attempt t may g x)) → (n : ℕ) (x : X) (g : Trail C) → P g → P (tried t n x g)
+tried-keeps t P step zero x g p = cond_case P (t.stops g.scene.callee) g (after_attempt t false g x) p (step false x g p)
+tried-keeps t P step (suc n) x g p =
+    let z = after_attempt t true g x in
+    let some = is_some (next_attempt t true g x).verdict in
+    cond_case P (t.stops g.scene.callee) g (cond some z (tried t n x z)) p (cond_case P some z (tried t n x z) (step true x g p) (tried-keeps t P step n x z (step true x g p)))
+
+pub slices-keeps : {C X V : Type 0} (t : Tests C X V) (P : Trail C → Type 0) → ((may : Bool) (x : X) (g : Trail C) → P g → P (after_attempt t may g x)) → (L : List X) (g : Trail C) → P g → P (slices t L g)
+slices-keeps t P step [] g p = p
+slices-keeps t P step (x ∷ more) g p = slices-keeps t P step more (tried t (t.retries g.scene.callee) x g) (tried-keeps t P step (t.retries g.scene.callee) x g p)
+
+-- a relation that serving and each step of the module keep is kept by the event
+pub record KeepsIn {C X V : Type 0} (r : Running C X V) (R : C → C → Type 0) : Type 0 where
+  pub kept : IsKept r.tests.table R
+  pub taken : (c : C) (x : X) (v : V) (failed : Bool) → R c (r.tests.taken c x v failed)
+  pub cleared : (c : C) → R c (r.cleared c)
+  pub inside : (c : C) → R c (r.inside c)
+  pub back : (o c : C) → R c (r.back o c)
+
+pub event-keeps : {C X V : Type 0} (r : Running C X V) (R : C → C → Type 0) → KeepsIn r R → (s : Scene C) → R s.callee ((event r s).after.callee)
+event-keeps {C} {X} {V} r R k s =
+    let t = r.tests in
+    let first : Scene C = scene s.board (r.cleared s.callee) s.log in
+    let o = opened r s in
+    let i = (entered r o).scene.callee in
+    let z = (ran r o).scene in
+    let y = returned r o z in
+    let a = k.kept.both s.callee first.callee o.callee (k.cleared s.callee) (due_served-moves t.table R k.kept s.board.left first) in
+    let b = k.kept.both o.callee i z.callee (k.inside o.callee) (slices-keeps t (λ g. R i g.scene.callee) (step i) (r.work o.callee) (entered r o) (k.kept.none i)) in
+    let c = k.kept.both z.callee y.callee _ (k.back o.callee z.callee) (left_served-moves t.table R k.kept z.board.left y) in
+    k.kept.both s.callee o.callee _ a (k.kept.both o.callee z.callee _ b c)
+  where
+    one : (c : C) (x : X) (failed : Bool) (v : Option V) → R c (taken_by r.tests c x failed v)
+    one c x failed None = k.kept.none c
+    one c x failed (Some v) = k.taken c x v failed
+
+    step : (i : C) (may : Bool) (x : X) (g : Trail C) → R i g.scene.callee → R i ((after_attempt r.tests may g x).scene.callee)
+    step i may x g p =
+        let mid = scene_behind r.tests may g x in
+        k.kept.both i mid.callee _ (k.kept.both i g.scene.callee mid.callee p (one g.scene.callee x g.failed (next_attempt r.tests may g x).verdict))
+        (due_served-moves r.tests.table R k.kept mid.board.left mid)
+
+-- the same of a call by rows
+pub row-keeps : {C X V : Type 0} (cleared : C → C) (row : C → Cell C X) (t : Tests C X V) (R : C → C → Type 0) → IsKept t.table R → ((c : C) (x : X) (v : V) (failed : Bool) → R c (t.taken c x v failed))
+    → ((c : C) → R c (cleared c)) → ((c : C) → CellKeeps R c (row c)) → (s : Scene C) → R s.callee ((event (by_row cleared row t) s).after.callee)
+row-keeps cleared row t R kept taken clears cells s =
+    event-keeps (by_row cleared row t) R (record { kept = kept; taken = taken; cleared = clears; inside = λ c. ((cells c).1 c).0; back = λ o c. ((cells o).1 c).1 }) s
