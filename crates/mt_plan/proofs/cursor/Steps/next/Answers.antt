@@ -1,43 +1,32 @@
-use Rattle.std.proofs.Common.{◌<◌, arith, sym, ◌∙◌}
-use Rattle.mt_plan.specs.Rows.{part_count}
 use Rattle.mt_plan.specs.Cursor.{IsCursor}
-use Rattle.mt_plan.proofs.Standing.{stands_step, stands_end}
+use Rattle.mt_plan.proofs.Standing.{stands_step, stands_at, stands_line, stands_inside}
 use Rattle.mt_plan.proofs.cursor.Steps.next.Goals as goal
 
-pub part_count-requires : goal.part_count-requires
+pub step-step-requires-clause-small : goal.step-step-requires-clause-small
 unfolding IsCursor
-part_count-requires c = c.requires.accepted
+step-step-requires-clause-small c = c.requires.cursor.small
 
-pub returns-then-self-part_count-clause-step : goal.returns-then-self-part_count-clause-step
+pub step-step-requires-clause-on : goal.step-step-requires-clause-on
 unfolding IsCursor
-returns-then-self-part_count-clause-step c = sym (stands_end c.args.algorithm.now c.args.self.now c.requires (c.if-self-part_count.true ∙ c.part_count.ensures.count))
+step-step-requires-clause-on c = stands_line c.args.algorithm.now c.args.self.now c.requires.cursor (stands_inside c.args.algorithm.now c.args.self.now c.requires.cursor c.requires.left)
 
-pub step_in-step-requires-clause-accepted : goal.step_in-step-requires-clause-accepted
+pub step-step-requires-clause-at : goal.step-step-requires-clause-at
 unfolding IsCursor
-step_in-step-requires-clause-accepted c = c.requires.accepted
+step-step-requires-clause-at c = stands_at c.args.algorithm.now c.args.self.now c.requires.cursor (stands_inside c.args.algorithm.now c.args.self.now c.requires.cursor c.requires.left)
 
-pub step_in-step-requires-clause-small : goal.step_in-step-requires-clause-small
+pub go_on-requires-clause-cursor : goal.go_on-requires-clause-cursor
 unfolding IsCursor
-step_in-step-requires-clause-small c = c.requires.small
+go_on-requires-clause-cursor c = c.requires.cursor
 
-pub step_in-step-requires-clause-place : goal.step_in-step-requires-clause-place
+pub go_on-requires-clause-part : goal.go_on-requires-clause-part
 unfolding IsCursor
-step_in-step-requires-clause-place c = c.requires.place (omega (arith, c.requires.parts))
-
-pub after-requires-clause-cursor : goal.after-requires-clause-cursor
-unfolding IsCursor
-after-requires-clause-cursor c = c.requires
-
-pub after-requires-clause-part : goal.after-requires-clause-part
-unfolding IsCursor
-after-requires-clause-part c = omega (arith, c.requires.parts)
+go_on-requires-clause-part c = stands_inside c.args.algorithm.now c.args.self.now c.requires.cursor c.requires.left
 
 pub returns-clause-step : goal.returns-clause-step
 unfolding IsCursor
 returns-clause-step c =
-    let inside : c.args.self.now.place.part < part_count c.args.algorithm.now = omega (arith, c.requires.parts) in
-    sym (stands_step c.args.algorithm.now c.args.self.now c.step_in-step.result c.requires inside c.step_in-step.ensures.step)
+    stands_step c.args.algorithm.now c.args.self.now c.step-step.result c.requires.cursor (stands_inside c.args.algorithm.now c.args.self.now c.requires.cursor c.requires.left) c.step-step.ensures.step
 
 pub returns-clause-cursor : goal.returns-clause-cursor
 unfolding IsCursor
-returns-clause-cursor c = c.after.ensures.cursor
+returns-clause-cursor c = c.go_on.ensures.cursor
