@@ -58,7 +58,30 @@ impl Steps {
         self.made
     }
 
-    /// The next step. One has to be left.
+    /// The next step, of which one has to be left. The cursor stays before it.
+    #[inline(always)]
+    pub fn peek(&self, _algorithm: &Algorithm) -> Step
+        requires cursor { IsCursor _algorithm.now self.now }
+        requires left { made_by self.now < length (steps_of _algorithm.now (cells_of self.now)) }
+        ensures step { slice_get (steps_of _algorithm.now (cells_of self.now)) (made_by self.now) ≡ Some result }
+        ensures inside { result.cell < cells_of self.now }
+    {
+        self.line.step(&self.element, self.n, self.place.at)
+    }
+
+    /// Goes one step on. One has to be left.
+    #[inline(always)]
+    pub fn advance(&mut self, algorithm: &Algorithm)
+        requires cursor { IsCursor algorithm.now self.old }
+        requires left { made_by self.old < length (steps_of algorithm.now (cells_of self.old)) }
+        ensures cursor { IsCursor algorithm.now self.new }
+        ensures cells { cells_of self.new ≡ cells_of self.old }
+        ensures made { made_by self.new ≡ made_by self.old + 1 }
+    {
+        self.go_on(algorithm);
+    }
+
+    /// The next step, of which one has to be left, and goes on.
     #[inline(always)]
     pub fn next(&mut self, algorithm: &Algorithm) -> Step
         requires cursor { IsCursor algorithm.now self.old }
@@ -69,8 +92,8 @@ impl Steps {
         ensures cells { cells_of self.new ≡ cells_of self.old }
         ensures made { made_by self.new ≡ made_by self.old + 1 }
     {
-        let step = self.line.step(&self.element, self.n, self.place.at);
-        self.go_on(algorithm);
+        let step = self.peek(algorithm);
+        self.advance(algorithm);
         step
     }
 
