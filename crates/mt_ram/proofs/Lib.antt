@@ -1,5 +1,4 @@
 pub mod Moves
 pub mod Sets
-pub mod Ticks
-pub mod WholeTests
 pub mod Settings
+pub mod Walks

@@ -12,7 +12,7 @@ use Rattle.mt_blocks.specs.Slices.{AreSpans, IsValid, span_at, no_span}
 use Rattle.mt_blocks.specs.Accepted.{IsAcceptedBlock, IsAcceptedSet, block_at, no_block, no_set, spans_of}
 use Rattle.mt_seq.specs.declared.sequence.Job.{Job}
 use Rattle.mt_seq.specs.Sequence.{sequence_hold}
-use Rattle.mt_seq.proofs.Lengths.{holds_are_short}
+use Rattle.mt_seq.specs.Laws.{SequencesAreShort}
 use Rattle.mt_plan.specs.Plan.{IsAccepted}
 use Rattle.mt_ram.specs.State.{RamTst, IsRam, set_of}
 use Rattle.mt_ram.specs.Event.{job_in}
@@ -53,5 +53,5 @@ sound_job shape set at ok valid =
 pub accepted_set : (r : RamTst) → IsRam r → IsAcceptedSet r.setting.shape (set_of r)
 accepted_set r ok = ok.accepted.sets r.selected no_set ok.selected
 
-pub hold_small : (job : Job) (n : ℕ) → IsAccepted job.alg → n ≤ 64 → sequence_hold job n ≤ 262 * 64
-hold_small job n accepted small = omega (arith, holds_are_short job n accepted small, small)
+pub hold_small : SequencesAreShort → (job : Job) (n : ℕ) → IsAccepted job.alg → n ≤ 64 → sequence_hold job n ≤ 262 * 64
+hold_small short job n accepted small = omega (arith, short job n accepted small, small)

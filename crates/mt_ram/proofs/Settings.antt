@@ -1,7 +1,6 @@
 -- Running events leave the setting.
 use Rattle.std.proofs.Common.{false, refl, ◌∙◌}
-use Rattle.mt_window.proofs.Serving.{IsKept}
-use Rattle.mt_window.proofs.Rows.{row-keeps}
+use Rattle.mt_window.specs.Kept.{IsKept, row-keeps}
 use Rattle.mt_ram.specs.State.{RamTst}
 use Rattle.mt_ram.specs.Table.{Service, row, ram_table}
 use Rattle.mt_ram.specs.Event.{running, of_pass, of_test}

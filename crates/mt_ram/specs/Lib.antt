@@ -5,3 +5,7 @@ pub mod Kept
 pub mod Event
 pub mod Laws
 pub mod Example
+pub mod Moves
+pub mod Walks
+pub mod PassWalks
+pub mod TestWalks

@@ -6,7 +6,7 @@ use Rattle.mt_blocks.specs.declared.span.Span.{Span}
 use Rattle.mt_blocks.specs.declared.pass.Position.{Position}
 use Rattle.mt_blocks.specs.declared.config.ParamSet.{ParamSet}
 use Rattle.mt_blocks.specs.declared.config.RamConfig.{RamConfig}
-use Rattle.mt_blocks.specs.Slices.{IsValid, start}
+use Rattle.mt_blocks.specs.Slices.{Piece, IsValid, piece_at}
 use Rattle.mt_blocks.specs.Accepted.{IsAcceptedRam, set_at, spans_of}
 use Rattle.mt_ram.specs.declared.state.State.{State}
 use Rattle.mt_ram.specs.declared.state.State.TheVariants.{Uninit, Stopped, Running, Suspended, Full, Partial}
@@ -36,6 +36,10 @@ set_of r = set_at r.setting.config.sets r.selected
 abbrev pub spans_in : RamTst → List Span
 spans_in r = spans_of (set_of r).blocks
 
+-- the slice at a position
+abbrev pub piece_in : RamTst → Position → Piece
+piece_in r at = piece_at (set_of r).atomic (spans_in r) at
+
 -- the position that is kept is that of a slice
 abbrev pub IsPlace : ParamSet → State → Type 0
 IsPlace set Uninit = Unit {0}
@@ -62,15 +66,6 @@ IsInside (Running p) = ⊥
 IsInside (Suspended p) = ⊥
 IsInside Full = Unit {0}
 IsInside (Partial back) = Unit {0}
-
--- the position of a running pass
-abbrev pub place_of : State → Position
-place_of Uninit = start
-place_of Stopped = start
-place_of (Running p) = p
-place_of (Suspended p) = p
-place_of Full = start
-place_of (Partial back) = start
 
 -- what holds of every state
 pub record IsRam (r : RamTst) : Type 0 where

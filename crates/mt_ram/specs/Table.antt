@@ -111,7 +111,7 @@ name_of algorithms.Galpat = names.Galpat
 name_of algorithms.TransparentGalpat = names.TransparentGalpat
 
 -- The table, row by row. Inside a full or partial test only a handler calls, so that a row of another service has
--- no cell there; what it has here is the cell of RUNNING, and for the main function that of SUSPENDED.
+-- no cell there; what it has here is the cell of RUNNING, and for the main function that it tests nothing.
 abbrev pub cell : RamTst → Service → State → RamCell
 cell r Init Uninit = Goes (initialised r)
 cell r Init _ = Refuses refusal.Status

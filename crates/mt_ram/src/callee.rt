@@ -7,7 +7,7 @@ use mt_window::{Callee, Reply};
 impl Callee for Ram {
     ghost use Rattle.std.specs.Prelude.{◌≡◌};
     ghost use Rattle.mt_port.specs.declared.request.Module.TheVariants.{RamTst as Itself};
-    ghost use Rattle.mt_ram.specs.State.{RamTst};
+    ghost use Rattle.mt_ram.specs.State.{RamTst, Setting};
     ghost use Rattle.mt_ram.specs.Table.{ram_table};
     ghost use Rattle.mt_ram.specs.Kept.{handlers_leave_setting};
 
@@ -15,7 +15,9 @@ impl Callee for Ram {
 
     ghost table = { ram_table };
 
-    ghost same_setting = { λ (a : RamTst) (b : RamTst). b.setting ≡ a.setting };
+    ghost Setting = { Setting };
+
+    ghost setting = { λ (r : RamTst). r.setting };
 
     #[tactic(auto, unfolding(crate::specs::Table::ram_table))]
     fn call(&mut self, call: HandlerCall) -> Reply {

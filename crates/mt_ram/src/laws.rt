@@ -4,12 +4,20 @@ ghost use Rattle.mt_ram.specs.Event.{ticking, full_test};
 ghost use Rattle.mt_window.specs.Waits.{WaitsAreShortIn};
 ghost use Rattle.mt_ram.specs.Laws.{WaitsOfPartialTests, BoundariesMove, RequestsLeftMove, ServicesLeaveSetting};
 
+use crate::pass_walk::PassWalk;
+use crate::state::Ram;
+use crate::test_walk::TestWalk;
+use mt_window::waits_are_short;
+
 /// Each request of a running event waits 0, or less than the length of the sequence that it meets.
 pub fn waits_of_running_calls()
     ensures tick { WaitsAreShortIn ticking }
     ensures full { WaitsAreShortIn full_test }
     ensures partial { WaitsOfPartialTests }
-{}
+{
+    waits_are_short::<Ram, PassWalk>();
+    waits_are_short::<Ram, TestWalk>();
+}
 
 /// What handlers' calls leave of the module.
 pub fn handlers_leave_results()

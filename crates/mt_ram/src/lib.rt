@@ -3,11 +3,13 @@
 
 mod callee;
 mod laws;
+mod pass_walk;
 mod result;
 mod running;
 mod services;
 mod slice;
 mod state;
+mod test_walk;
 
 pub use laws::{handlers_leave_results, services_leave_setting, waits_of_running_calls};
 pub use state::{Ram, State};

@@ -3,8 +3,8 @@ use Rattle.std.proofs.Common.{Bool, List, refl, ap, ◌∙◌, ◌≡◌}
 use Rattle.mt_port.specs.Board.{Board}
 use Rattle.mt_window.specs.Serving.{Scene, scene}
 use Rattle.mt_window.specs.Slices.{Tests, Trail, scene_behind, after_attempt, slices}
-use Rattle.mt_window.specs.Events.{opened, entered, ran, returned}
-use Rattle.mt_window.specs.Waits.{LeavesBoard, EventsLeaveBoard}
+use Rattle.mt_window.specs.Events.{Running, opened, entered, ran, returned}
+use Rattle.mt_window.specs.Waits.{LeavesBoard, KeepsBoard}
 use Rattle.mt_window.specs.Kept.{slices-keeps}
 use Rattle.mt_window.proofs.Serving.{Stays, due_served-stays, left_served-stays}
 
@@ -27,7 +27,7 @@ slices-board {C} {X} {V} t L g =
 pub slices_shape : {C X V : Type 0} (t : Tests C X V) (L : List X) (g : Trail C) (z : Scene C) → z ≡ (slices t L g).scene → z.board.shape ≡ g.scene.board.shape
 slices_shape t L g z e = ap (λ (y : Scene _). y.board.shape) e ∙ (slices-board t L g).shape
 
-pub event-board : {C X V : Type 0} → EventsLeaveBoard C X V
+pub event-board : {C X V : Type 0} (r : Running C X V) → KeepsBoard r
 event-board {C} r s =
     let t = r.tests in
     let first : Scene C = scene s.board (r.cleared s.callee) s.log in

@@ -7,7 +7,7 @@ use Rattle.mt_window.specs.declared.log.Entry.TheVariants.{Served, Inner, Own}
 use Rattle.mt_window.specs.Serving.{Table, Scene, scene, operated, operated_all, reply_by, served, due_served, left_served, begun}
 use Rattle.mt_window.specs.Slices.{Tests, Trail, scene_behind, after_attempt, slices}
 use Rattle.mt_window.specs.Events.{Running, opened, entered, ran, returned, event}
-use Rattle.mt_window.specs.Waits.{kinds, line_kinds, RequestsAreInOrder, NoneIsLeft}
+use Rattle.mt_window.specs.Waits.{kinds, line_kinds, ServesInOrder, TakesAll}
 use Rattle.mt_window.specs.Kept.{cond_case, slices-keeps}
 use Rattle.mt_window.proofs.Serving.{operated_all-keeps}
 
@@ -111,7 +111,7 @@ event-left r s =
     let z = (ran r o).scene in
     left_served-none r.tests.table z.board.left (returned r o z) refl
 
-pub event-none_left : {C X V : Type 0} → NoneIsLeft C X V
+pub event-none_left : {C X V : Type 0} (r : Running C X V) → TakesAll r
 event-none_left {C} r s =
     let o = opened r s in
     let z = (ran r o).scene in
@@ -120,7 +120,7 @@ event-none_left {C} r s =
     let b : z.board.taken + length z.board.left ≡ o.board.taken + length o.board.left = slices-taken r.tests (r.work o.callee) (entered r o) in
     record { none = event-left r s; taken = left_served-taken r.tests.table z.board.left (returned r o z) refl ∙ b ∙ a }
 
-pub event-order : {C X V : Type 0} → RequestsAreInOrder C X V
+pub event-order : {C X V : Type 0} (r : Running C X V) → ServesInOrder r
 event-order {C} r s empty =
     let o = opened r s in
     let z = (ran r o).scene in

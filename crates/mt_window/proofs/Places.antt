@@ -11,8 +11,8 @@ use Rattle.mt_window.specs.declared.log.Entry.{Entry}
 use Rattle.mt_window.specs.declared.log.Entry.TheVariants.{Served, Inner, Own}
 use Rattle.mt_window.specs.Serving.{Table, Scene, scene, operated, operated_all, reply_by, begun, served, due_served, left_served}
 use Rattle.mt_window.specs.Slices.{Tests, Trail, Attempt, kept_attempt, scene_behind, after_attempt}
-use Rattle.mt_window.specs.Events.{opened, entered, ran, returned, event}
-use Rattle.mt_window.specs.Waits.{boundaries, first_boundary, served_at, line_served, services, PlacesAreByOffset}
+use Rattle.mt_window.specs.Events.{Running, opened, entered, ran, returned, event}
+use Rattle.mt_window.specs.Waits.{boundaries, first_boundary, served_at, line_served, services, ServesByOffset}
 use Rattle.mt_window.specs.Kept.{slices-keeps}
 use Rattle.mt_window.proofs.Serving.{operated_all-keeps, due_served-stays, left_served-stays}
 use Rattle.mt_window.proofs.Late.{Each, Each-map, Late, served_late}
@@ -158,7 +158,7 @@ attempt-places {C} t n all may x g h =
           ∙ sym (ap (λ (l : List ℕ). line l last n all) all_bounds));
     }
 
-pub event-places : {C X V : Type 0} → PlacesAreByOffset C X V
+pub event-places : {C X V : Type 0} (r : Running C X V) → ServesByOffset r
 event-places {C} r s fresh =
     let t = r.tests in
     let first : Scene C = scene s.board (r.cleared s.callee) s.log in

@@ -7,8 +7,8 @@ use Rattle.std.proofs.lemmas.List.Elements.{All-push}
 use Rattle.mt_port.specs.declared.request.Request.{Request}
 use Rattle.mt_window.specs.Serving.{Table, Scene, scene, served, due_served}
 use Rattle.mt_window.specs.Slices.{Tests, Trail, Attempt, kept_attempt, scene_behind, after_attempt}
-use Rattle.mt_window.specs.Events.{opened, entered}
-use Rattle.mt_window.specs.Waits.{DropsInTime, FallsIn, IsServedWithin, UrgentWaitsAreShort}
+use Rattle.mt_window.specs.Events.{Running, opened, entered}
+use Rattle.mt_window.specs.Waits.{DropsInTime, FallsIn, IsServedWithin, UrgentWaitsAreShortIn}
 use Rattle.mt_window.specs.Kept.{slices-keeps}
 use Rattle.mt_window.proofs.Serving.{operated_all-keeps, due_served-stays}
 use Rattle.mt_window.proofs.Late.{All-each, Late, served_late}
@@ -90,7 +90,7 @@ attempt-urgent {C} {X} t drops q urgent may x g h =
       within = All-push (Within made q) g.attempts a (λ k d low. within-more g.attempts a q _ (h.within k d low)) new;
     }
 
-pub event-urgent : {C X V : Type 0} → UrgentWaitsAreShort C X V
+pub event-urgent : {C X V : Type 0} (r : Running C X V) → DropsInTime r.tests → UrgentWaitsAreShortIn r
 event-urgent {C} r drops s fresh = λ k d low urgent.
     (let t = r.tests in
     let q = get_or s.board.left k d in

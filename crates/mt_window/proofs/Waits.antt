@@ -12,8 +12,8 @@ use Rattle.mt_window.specs.declared.log.Entry.{Entry}
 use Rattle.mt_window.specs.declared.log.Entry.TheVariants.{Served, Inner, Own}
 use Rattle.mt_window.specs.Serving.{Table, Scene, scene, operated, operated_all, reply_by, served, due_served, left_served, cost}
 use Rattle.mt_window.specs.Slices.{Tests, Trail, Attempt, kept_attempt, scene_behind, after_attempt}
-use Rattle.mt_window.specs.Events.{opened, entered, ran, returned}
-use Rattle.mt_window.specs.Waits.{IsShort, WaitsAreShort, AnEventHasRoom}
+use Rattle.mt_window.specs.Events.{Running, opened, entered, ran, returned}
+use Rattle.mt_window.specs.Waits.{IsShort, WaitsAreShortIn, AnEventHasRoom}
 use Rattle.mt_window.specs.Kept.{slices-keeps}
 use Rattle.mt_window.proofs.Serving.{operated_all-keeps}
 use Rattle.mt_window.proofs.Late.{Each, Each-map, Each-all, Late, served_late}
@@ -75,7 +75,7 @@ attempt-waits t may x g h =
       short = due_served-log t.table P (λ q. tt) mid.board.left mid each (λ k d low. short-more g.attempts a _ (h.short k d low));
     }
 
-pub event-waits : {C X V : Type 0} → WaitsAreShort C X V
+pub event-waits : {C X V : Type 0} (r : Running C X V) → WaitsAreShortIn r
 event-waits {C} {X} {V} r s fresh =
     let t = r.tests in
     let first : Scene C = scene s.board (r.cleared s.callee) s.log in

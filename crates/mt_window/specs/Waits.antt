@@ -43,8 +43,8 @@ abbrev pub services : List Entry → List Entry
 services log = filter is_service log
 
 -- each request of an event is served at the first boundary that its offset doesn't exceed, or else with no wait at the event's end
-abbrev pub PlacesAreByOffset : (C X V : Type 0) → Type 0
-PlacesAreByOffset C X V = (r : Running C X V) (s : Scene C) → IsFresh s
+abbrev pub ServesByOffset : {C X V : Type 0} → Running C X V → Type 0
+ServesByOffset {C} r = (s : Scene C) → IsFresh s
     → services ((event r s).after.log) ≡ line_served (event_attempts r s) ((event r s).after.board.count) (s.board.taken + 1) s.board.left
 
 -- a request's wait is 0, or below the length of the attempt that it meets: the one that ends at its place
@@ -56,9 +56,6 @@ IsShort made (Own reply) = Unit {0}
 -- each wait of an event of this call is so
 abbrev pub WaitsAreShortIn : {C X V : Type 0} → Running C X V → Type 0
 WaitsAreShortIn {C} r = (s : Scene C) → IsFresh s → All (IsShort (event_attempts r s)) ((event r s).after.log)
-
-abbrev pub WaitsAreShort : (C X V : Type 0) → Type 0
-WaitsAreShort C X V = (r : Running C X V) → WaitsAreShortIn r
 
 -- Where attempts are dropped in time: from each board whose requests left are all to come, an attempt that may be dropped ends at
 -- most as many accesses after an urgent request falls due as it writes words back.
@@ -81,9 +78,6 @@ abbrev pub UrgentWaitsAreShortIn : {C X V : Type 0} → Running C X V → Type 0
 UrgentWaitsAreShortIn {C} r = (s : Scene C) → IsFresh s → All (λ (q : Request). q.urgent ≡ true
     → All (λ (a : Attempt). (n : ℕ) → a.restores ≡ Some n → FallsIn a q → IsServedWithin (event_attempts r s) q a n) (event_attempts r s)) s.board.left
 
-abbrev pub UrgentWaitsAreShort : (C X V : Type 0) → Type 0
-UrgentWaitsAreShort C X V = (r : Running C X V) → DropsInTime r.tests → UrgentWaitsAreShortIn r
-
 -- an entry without what it tells: the number of a request, or an operation of one
 abbrev pub kinds : List Entry → List (Option ℕ)
 kinds [] = []
@@ -97,17 +91,16 @@ line_kinds n [] = []
 line_kinds n (r ∷ rs) = Some n ∷ (map (λ (op : HandlerOp). None) r.ops.items ++ line_kinds (n + 1) rs)
 
 -- each request of an event is served once, in the line's order, and each of its operations is done once, in order
-abbrev pub RequestsAreInOrder : (C X V : Type 0) → Type 0
-RequestsAreInOrder C X V =
-    (r : Running C X V) (s : Scene C) → s.log ≡ [] → kinds ((event r s).after.log) ≡ line_kinds (s.board.taken + 1) s.board.left
+abbrev pub ServesInOrder : {C X V : Type 0} → Running C X V → Type 0
+ServesInOrder {C} r = (s : Scene C) → s.log ≡ [] → kinds ((event r s).after.log) ≡ line_kinds (s.board.taken + 1) s.board.left
 
 -- all are taken, and none is left
 pub record AreTaken (a b : Board) : Type 0 where
   pub none : b.left ≡ []
   pub taken : b.taken ≡ a.taken + length a.left
 
-abbrev pub NoneIsLeft : (C X V : Type 0) → Type 0
-NoneIsLeft C X V = (r : Running C X V) (s : Scene C) → AreTaken s.board ((event r s).after.board)
+abbrev pub TakesAll : {C X V : Type 0} → Running C X V → Type 0
+TakesAll {C} r = (s : Scene C) → AreTaken s.board ((event r s).after.board)
 
 -- what an event leaves of the board
 pub record LeavesBoard (a b : Board) : Type 0 where
@@ -116,8 +109,8 @@ pub record LeavesBoard (a b : Board) : Type 0 where
   pub flash : b.flash ≡ a.flash
   pub held : b.held ≡ a.held
 
-abbrev pub EventsLeaveBoard : (C X V : Type 0) → Type 0
-EventsLeaveBoard C X V = (r : Running C X V) (s : Scene C) → LeavesBoard s.board ((event r s).after.board)
+abbrev pub KeepsBoard : {C X V : Type 0} → Running C X V → Type 0
+KeepsBoard {C} r = (s : Scene C) → LeavesBoard s.board ((event r s).after.board)
 
 -- the log has room for all requests of an event
 abbrev pub AnEventHasRoom : Type 0

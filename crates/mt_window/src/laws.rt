@@ -1,22 +1,25 @@
-//! Laws of running events, for any module.
+//! Laws of running events, for each call of any module.
 
-ghost use Rattle.mt_window.specs.Waits.{PlacesAreByOffset, WaitsAreShort, UrgentWaitsAreShort, RequestsAreInOrder, NoneIsLeft, EventsLeaveBoard, AnEventHasRoom};
+ghost use Rattle.mt_window.specs.Waits.{ServesByOffset, ServesInOrder, TakesAll, KeepsBoard, WaitsAreShortIn, DropsInTime, UrgentWaitsAreShortIn, AnEventHasRoom};
+
+use crate::serve::Callee;
+use crate::walk::Walk;
 
 /// Each request of an event is served once, in the order of the line, with one entry for each of its operations, and
 /// none is left. Its offset says where: at the first boundary that the offset doesn't exceed.
-pub fn requests_are_served<C, X, V>()
-    ensures places { PlacesAreByOffset C X V }
-    ensures order { RequestsAreInOrder C X V }
-    ensures none { NoneIsLeft C X V }
+pub fn requests_are_served<C: Callee, W: Walk<C>>()
+    ensures places { (name : _) → ServesByOffset (W.running name) }
+    ensures order { (name : _) → ServesInOrder (W.running name) }
+    ensures taken { (name : _) → TakesAll (W.running name) }
     // Shape, fault, flash words, and whether interrupts are held.
-    ensures board { EventsLeaveBoard C X V }
+    ensures board { (name : _) → KeepsBoard (W.running name) }
 {}
 
 /// A request waits 0, or less than the length of the attempt that it meets. Where attempts are dropped in time, an
 /// urgent one that meets an attempt which might be dropped waits at most the words that this attempt writes back.
-pub fn waits_are_short<C, X, V>()
-    ensures waits { WaitsAreShort C X V }
-    ensures urgent { UrgentWaitsAreShort C X V }
+pub fn waits_are_short<C: Callee, W: Walk<C>>()
+    ensures waits { (name : _) → WaitsAreShortIn (W.running name) }
+    ensures urgent { DropsInTime W.tests → (name : _) → UrgentWaitsAreShortIn (W.running name) }
 {}
 
 /// The entries of 16 requests with 8 operations each are at most 144.
