@@ -9,3 +9,4 @@ pub mod Digits
 pub mod Trace
 pub mod Canonical
 pub mod Kinds
+pub mod TokenRules
