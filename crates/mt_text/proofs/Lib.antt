@@ -19,3 +19,4 @@ pub mod RuleOne
 pub mod SpellingLaws
 pub mod TraceLemmas
 pub mod LeastRules
+pub mod TokensOfLines

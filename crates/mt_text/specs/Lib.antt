@@ -10,3 +10,4 @@ pub mod Trace
 pub mod Canonical
 pub mod Kinds
 pub mod TokenRules
+pub mod LineTokens

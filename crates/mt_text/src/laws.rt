@@ -12,6 +12,7 @@ ghost use Rattle.mt_text.specs.Canonical.{canonical};
 ghost use Rattle.mt_text.specs.Digits.{word_text};
 ghost use Rattle.mt_text.specs.Kinds.{IsOfKinds, bytes_of};
 ghost use Rattle.mt_text.specs.Forms.{Form, step};
+ghost use Rattle.mt_text.specs.LineTokens.{AreOfLine};
 ghost use Rattle.mt_text.specs.Lines.{line_of, Part, settled, Spells, SpellsTokens, Refuses, FirstBroken};
 ghost use Rattle.mt_text.specs.TokenRules.{token_rules, IsLeastBroken, BreaksNone};
 ghost use Rattle.mt_text.specs.Tokens.{Token, tokens, number_of, is_hex, hex, hex_of, upper};
@@ -41,6 +42,12 @@ pub fn spelled_lines_are_accepted()
 pub fn canonical_lines_spell_themselves()
     ensures { (shape : Shape) (line : Line) → IsWithinLimits shape → IsAccepted shape line
         → Spells shape (canonical shape.width line) line }
+{}
+
+/// A text that spells a line has that line's tokens, but for the digits of words and brackets round an empty handler.
+pub fn spelled_lines_have_their_tokens()
+    ensures { (shape : Shape) (tokens : List Token) (line : Line) → SpellsTokens shape tokens line
+        → AreOfLine shape.width line (bytes_of tokens) }
 {}
 
 /// A refusal of a token is `Spelling` just where no line has, after the tokens before it, a token of its kind. The
