@@ -63,7 +63,7 @@ made_whole job slice k c b now told tape made all =
     Makes-same (take_all k (sequence b job slice) (omega (arith, hold_length b job slice))) refl made.makes
 
 -- the words that are put back
-restored : (job : Job) (slice : Slice) (saved : List ℕ) → job.policy ≡ NonDestructive → map (λ (cell : ℕ). Store (slice.first + cell) (slice_index saved cell)) (cells slice.n) ≡ ending job slice saved
+pub restored : (job : Job) (slice : Slice) (saved : List ℕ) → job.policy ≡ NonDestructive → map (λ (cell : ℕ). Store (slice.first + cell) (slice_index saved cell)) (cells slice.n) ≡ ending job slice saved
 restored job slice saved keeps = sym (ap (λ (p : Policy). map (λ (cell : ℕ). Store (slice.first + cell) (last_of p job.fill saved cell)) (cells slice.n)) keeps)
 
 -- a verdict of accesses is what it says

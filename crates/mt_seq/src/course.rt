@@ -6,12 +6,13 @@ ghost use Rattle.mt_fault.specs.Items.{Item, Look, Store};
 ghost use Rattle.mt_plan.specs.Accesses.{act_on};
 ghost use Rattle.mt_plan.specs.Cursor.{IsCursor, cells_of, made_by};
 ghost use Rattle.mt_plan.specs.Plan.{IsAccepted, steps_of};
-ghost use Rattle.mt_seq.specs.Sequence.{is_transparent, last_of, saving};
-ghost use Rattle.mt_seq.specs.Stepping.{begun, item_at, item_of_access, job_of, view_of, stepped, place_of, FitsAccess, IsCourse, IsMoved, IsNoLook, IsReady, IsStepOf};
+ghost use Rattle.mt_seq.specs.Sequence.{is_transparent, last_of, saving, sequence_hold};
+ghost use Rattle.mt_seq.specs.Stepping.{begun, item_at, item_of_access, job_of, view_of, stepped, place_of, FitsAccess, IsCourse, IsMoved, IsNoLook, IsReady, IsStepOf, progress_of};
 ghost use Rattle.mt_seq.specs.declared.sequence.Job.{Job};
 
 use crate::access::Access;
-use crate::sequence::{Frame, Slice};
+use crate::sequence::{Frame, Slice, verdict_from};
+use crate::stepper::Progress;
 use arrayvec::ArrayVec;
 use mt_plan::{Act, Algorithm, Policy, Steps, steps};
 use mt_port::Port;
@@ -95,6 +96,28 @@ impl Course {
         ensures { result ≡ self.now.ending_from }
     {
         self.ending_from
+    }
+
+    /// The slice.
+    pub fn slice(&self) -> Slice
+        ensures { result ≡ self.now.slice }
+    {
+        self.slice
+    }
+
+    /// Whether accesses are left, and if none is, the verdict.
+    pub fn progress(&self) -> Progress
+        ensures { (job : Job) → IsCourse job self.now → result ≡ progress_of (sequence_hold job self.now.slice.n - self.now.made) (view_of job self.now) }
+    {
+        if self.made < self.ending_from {
+            return Progress::More;
+        }
+        let ended = self.made - self.ending_from;
+        if ended < u32::from(self.slice.n) {
+            Progress::More
+        } else {
+            Progress::Ended(verdict_from(!self.differs))
+        }
     }
 
     /// The words that the saving reads have answered.
