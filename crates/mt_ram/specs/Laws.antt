@@ -2,7 +2,7 @@
 use Rattle.std.specs.Prelude.{ℕ, ◌≡◌, false}
 use Rattle.mt_window.specs.Serving.{Scene, serve_due, serve_left}
 use Rattle.mt_window.specs.Events.{Running as Events, event}
-use Rattle.mt_window.specs.Waits.{WaitsAreShortIn}
+use Rattle.mt_window.specs.Waits.{ServesInTime}
 use Rattle.mt_seq.specs.declared.sequence.Verdict.{Verdict}
 use Rattle.mt_blocks.specs.Slices.{Piece}
 use Rattle.mt_ram.specs.State.{RamTst, IsRunning, IsInside}
@@ -10,8 +10,8 @@ use Rattle.mt_ram.specs.Table.{Service, after, ram_table}
 use Rattle.mt_ram.specs.Event.{partial_test}
 
 -- of each partial test
-abbrev pub WaitsOfPartialTests : Type 0
-WaitsOfPartialTests = (block : ℕ) → WaitsAreShortIn (partial_test block)
+abbrev pub PartialTestsServeInTime : Type 0
+PartialTestsServeInTime = (block : ℕ) → ServesInTime (partial_test block)
 
 -- What handlers' calls leave of RamTst. Setting, selected set, number of cells and results stay. Where no Stop and no
 -- Suspend was accepted, a running pass goes on where it stood. Inside a full or partial test nothing changes.

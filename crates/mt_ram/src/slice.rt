@@ -3,7 +3,7 @@
 ghost use Rattle.std.specs.Prelude.{◌≡◌, ◌<◌, ◌≤◌, ◌+◌, ◌*◌, ◌^◌, false, true, is_some, length};
 ghost use Rattle.mt_port.specs.Board.{Logs, is_urgent_due};
 ghost use Rattle.mt_seq.specs.Sequence.{sequence_hold};
-ghost use Rattle.mt_seq.specs.Stepping.{job_of};
+ghost use Rattle.mt_seq.specs.Stepping.{job_of as framed};
 ghost use Rattle.mt_window.specs.Slices.{attempted};
 ghost use Rattle.mt_blocks.specs.Slices.{IsValid, next_in};
 ghost use Rattle.mt_ram.specs.State.{set_of, spans_in, piece_in};
@@ -15,12 +15,12 @@ use mt_blocks::{
     ParamSet, Position, following, is_last, next_of_test, or_start, passes_go_on, slice_at,
 };
 use mt_port::Port;
-use mt_seq::{Frame, Verdict, attempts_end_soon, sequences_are_short, try_slice};
+use mt_seq::{Frame, Verdict, attempts_are_counted, sequences_are_short, try_slice, urgent_requests_wait_shortly};
 
 // What a set says of a block, beside the algorithm.
 fn frame_of(set: &ParamSet, block: u32) -> Frame
     requires { block < length set.now.blocks }
-    ensures { job_of set.now.alg result ≡ job_in set.now block }
+    ensures { framed set.now.alg result ≡ job_in set.now block }
 {
     let tested = set.blocks.as_slice()[block as usize];
     Frame {
@@ -46,7 +46,8 @@ impl Ram {
         ensures whole { may ≡ false → is_some result ≡ true }
         ensures due { is_some result ≡ false → is_urgent_due (P.state port.new).count (P.state port.new).left ≡ true }
     {
-        attempts_end_soon();
+        attempts_are_counted();
+        urgent_requests_wait_shortly();
         sequences_are_short();
         let set = self.set();
         let frame = frame_of(set, at.block);

@@ -78,6 +78,12 @@ abbrev pub UrgentWaitsAreShortIn : {C X V : Type 0} → Running C X V → Type 0
 UrgentWaitsAreShortIn {C} r = (s : Scene C) → IsFresh s → All (λ (q : Request). q.urgent ≡ true
     → All (λ (a : Attempt). (n : ℕ) → a.restores ≡ Some n → FallsIn a q → IsServedWithin (event_attempts r s) q a n) (event_attempts r s)) s.board.left
 
+-- where the requests of this call's events are served, and how long they wait
+pub record ServesInTime {C X V : Type 0} (r : Running C X V) : Type 0 where
+  pub places : ServesByOffset r
+  pub short : WaitsAreShortIn r
+  pub urgent : UrgentWaitsAreShortIn r
+
 -- an entry without what it tells: the number of a request, or an operation of one
 abbrev pub kinds : List Entry → List (Option ℕ)
 kinds [] = []
