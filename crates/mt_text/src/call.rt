@@ -1,7 +1,7 @@
 //! Services on a line and in a handler.
 
 ghost use Rattle.std.specs.Prelude.{◌≡◌};
-ghost use Rattle.mt_text.specs.Forms.{branch, read_entry, Gives};
+ghost use Rattle.mt_text.specs.Reader.{branch, read_entry, Gives};
 ghost use Rattle.mt_text.specs.RamServices.{ram_call, ram_entry, ram_handler_call, ram_handler_entry};
 ghost use Rattle.mt_text.specs.FlsServices.{fls_call, fls_entry, fls_handler_call, fls_handler_entry};
 ghost use Rattle.mt_text.specs.Cursors.{left, end_of, token_view};
@@ -28,7 +28,7 @@ pub fn ram_call(
     }
 }
 
-#[tactic(auto, unfolding(crate::specs::Forms::read))]
+#[tactic(auto, unfolding(crate::specs::Reader::read))]
 fn ram_call_of(
     service: RamService,
     place: u32,
@@ -78,7 +78,7 @@ pub fn ram_handler_call(
     }
 }
 
-#[tactic(auto, unfolding(crate::specs::Forms::read))]
+#[tactic(auto, unfolding(crate::specs::Reader::read))]
 fn ram_handler_call_of(
     service: RamService,
     place: u32,
@@ -126,7 +126,7 @@ pub fn fls_call(
     }
 }
 
-#[tactic(auto, unfolding(crate::specs::Forms::read))]
+#[tactic(auto, unfolding(crate::specs::Reader::read))]
 fn fls_call_of(
     service: FlsService,
     place: u32,
@@ -166,7 +166,7 @@ pub fn fls_handler_call(
     }
 }
 
-#[tactic(auto, unfolding(crate::specs::Forms::read))]
+#[tactic(auto, unfolding(crate::specs::Reader::read))]
 fn fls_handler_call_of(
     service: FlsService,
     place: u32,

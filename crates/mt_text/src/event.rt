@@ -1,7 +1,8 @@
 //! Events and application operations.
 
 ghost use Rattle.std.specs.Prelude.{◌≡◌, ◌==◌, codes, true, false};
-ghost use Rattle.mt_text.specs.Forms.{read, branch, Gives, value, spot, done, none, row, mapped, Addr, FlashAddr, OtherAddr, Data, Bit, RamSpot, OtherSpot, FlashSpot};
+ghost use Rattle.mt_text.specs.Forms.{value, spot, done, none, row, mapped, Addr, FlashAddr, OtherAddr, Data, Bit, RamSpot, OtherSpot, FlashSpot};
+ghost use Rattle.mt_text.specs.Reader.{read, branch, Gives};
 ghost use Rattle.mt_text.specs.Lines.{app_op, fault, event, direction, tick};
 ghost use Rattle.mt_fault.specs.declared.fault.Fault.TheVariants.{StuckAt, CannotRise, CannotFall, Invert, Force, State, NoCell, Also, Instead};
 ghost use Rattle.mt_text.specs.RamServices.{ram_call};
@@ -21,7 +22,7 @@ use mt_fault::{Fault, Spot};
 use mt_port::{AppOp, Shape};
 
 /// Reads an application operation.
-#[tactic(auto, unfolding(crate::specs::Forms::read, crate::specs::Lines::app_op))]
+#[tactic(auto, unfolding(crate::specs::Reader::read, crate::specs::Lines::app_op))]
 pub fn app_op(word: &Token<'_>, shape: Shape, cursor: &mut Cursor<'_>) -> Result<AppOp, LineRefusal>
     ensures value { Gives result (left cursor.new) (branch shape (end_of cursor.old) (app_op) (token_view word.now) (left cursor.old)) }
     ensures end { end_of cursor.new ≡ end_of cursor.old }
@@ -50,7 +51,7 @@ pub fn app_op(word: &Token<'_>, shape: Shape, cursor: &mut Cursor<'_>) -> Result
 }
 
 /// Reads the spots of an aggressor and of its victim.
-#[tactic(auto, unfolding(crate::specs::Forms::read))]
+#[tactic(auto, unfolding(crate::specs::Reader::read))]
 fn coupled(shape: Shape, cursor: &mut Cursor<'_>) -> Result<(Spot, Spot), LineRefusal>
     ensures value { Gives result (left cursor.new) (read shape (end_of cursor.old) (spot RamSpot (λ a. spot (OtherSpot a.word) (λ v. done (a, v)))) (left cursor.old)) }
     ensures end { end_of cursor.new ≡ end_of cursor.old }
@@ -61,7 +62,7 @@ fn coupled(shape: Shape, cursor: &mut Cursor<'_>) -> Result<(Spot, Spot), LineRe
 }
 
 /// Reads what follows `sa`.
-#[tactic(auto, unfolding(crate::specs::Forms::read))]
+#[tactic(auto, unfolding(crate::specs::Reader::read))]
 fn stuck_at(shape: Shape, cursor: &mut Cursor<'_>) -> Result<Fault, LineRefusal>
     ensures value { Gives result (left cursor.new) (read shape (end_of cursor.old) (spot RamSpot (λ v. value Bit (λ b. done (StuckAt v (b == 1))))) (left cursor.old)) }
     ensures end { end_of cursor.new ≡ end_of cursor.old }
@@ -72,7 +73,7 @@ fn stuck_at(shape: Shape, cursor: &mut Cursor<'_>) -> Result<Fault, LineRefusal>
 }
 
 /// Reads what follows `tf-up`.
-#[tactic(auto, unfolding(crate::specs::Forms::read))]
+#[tactic(auto, unfolding(crate::specs::Reader::read))]
 fn cannot_rise(shape: Shape, cursor: &mut Cursor<'_>) -> Result<Fault, LineRefusal>
     ensures value { Gives result (left cursor.new) (read shape (end_of cursor.old) (spot RamSpot (λ v. done (CannotRise v))) (left cursor.old)) }
     ensures end { end_of cursor.new ≡ end_of cursor.old }
@@ -82,7 +83,7 @@ fn cannot_rise(shape: Shape, cursor: &mut Cursor<'_>) -> Result<Fault, LineRefus
 }
 
 /// Reads what follows `tf-down`.
-#[tactic(auto, unfolding(crate::specs::Forms::read))]
+#[tactic(auto, unfolding(crate::specs::Reader::read))]
 fn cannot_fall(shape: Shape, cursor: &mut Cursor<'_>) -> Result<Fault, LineRefusal>
     ensures value { Gives result (left cursor.new) (read shape (end_of cursor.old) (spot RamSpot (λ v. done (CannotFall v))) (left cursor.old)) }
     ensures end { end_of cursor.new ≡ end_of cursor.old }
@@ -92,7 +93,7 @@ fn cannot_fall(shape: Shape, cursor: &mut Cursor<'_>) -> Result<Fault, LineRefus
 }
 
 /// Reads what follows `cfin`.
-#[tactic(auto, unfolding(crate::specs::Forms::read))]
+#[tactic(auto, unfolding(crate::specs::Reader::read))]
 fn invert(shape: Shape, cursor: &mut Cursor<'_>) -> Result<Fault, LineRefusal>
     ensures value { Gives result (left cursor.new) (read shape (end_of cursor.old) (direction (λ up. spot RamSpot (λ a. spot (OtherSpot a.word) (λ v. done (Invert a up v))))) (left cursor.old)) }
     ensures end { end_of cursor.new ≡ end_of cursor.old }
@@ -103,7 +104,7 @@ fn invert(shape: Shape, cursor: &mut Cursor<'_>) -> Result<Fault, LineRefusal>
 }
 
 /// Reads what follows `cfid`.
-#[tactic(auto, unfolding(crate::specs::Forms::read))]
+#[tactic(auto, unfolding(crate::specs::Reader::read))]
 fn force(shape: Shape, cursor: &mut Cursor<'_>) -> Result<Fault, LineRefusal>
     ensures value { Gives result (left cursor.new) (read shape (end_of cursor.old) (direction (λ up. spot RamSpot (λ a. spot (OtherSpot a.word) (λ v. value Bit (λ b. done (Force a up v (b == 1))))))) (left cursor.old)) }
     ensures end { end_of cursor.new ≡ end_of cursor.old }
@@ -120,7 +121,7 @@ fn force(shape: Shape, cursor: &mut Cursor<'_>) -> Result<Fault, LineRefusal>
 }
 
 /// Reads what follows `cfst`.
-#[tactic(auto, unfolding(crate::specs::Forms::read))]
+#[tactic(auto, unfolding(crate::specs::Reader::read))]
 fn state(shape: Shape, cursor: &mut Cursor<'_>) -> Result<Fault, LineRefusal>
     ensures value { Gives result (left cursor.new) (read shape (end_of cursor.old) (value Bit (λ h. spot RamSpot (λ a. spot (OtherSpot a.word) (λ v. value Bit (λ b. done (State a (h == 1) v (b == 1))))))) (left cursor.old)) }
     ensures end { end_of cursor.new ≡ end_of cursor.old }
@@ -137,7 +138,7 @@ fn state(shape: Shape, cursor: &mut Cursor<'_>) -> Result<Fault, LineRefusal>
 }
 
 /// Reads what follows `af-none`.
-#[tactic(auto, unfolding(crate::specs::Forms::read))]
+#[tactic(auto, unfolding(crate::specs::Reader::read))]
 fn no_cell(shape: Shape, cursor: &mut Cursor<'_>) -> Result<Fault, LineRefusal>
     ensures value { Gives result (left cursor.new) (read shape (end_of cursor.old) (value Addr (λ a. value Data (λ x. done (NoCell a x)))) (left cursor.old)) }
     ensures end { end_of cursor.new ≡ end_of cursor.old }
@@ -148,7 +149,7 @@ fn no_cell(shape: Shape, cursor: &mut Cursor<'_>) -> Result<Fault, LineRefusal>
 }
 
 /// Reads what follows `af-also`.
-#[tactic(auto, unfolding(crate::specs::Forms::read))]
+#[tactic(auto, unfolding(crate::specs::Reader::read))]
 fn also(shape: Shape, cursor: &mut Cursor<'_>) -> Result<Fault, LineRefusal>
     ensures value { Gives result (left cursor.new) (read shape (end_of cursor.old) (value Addr (λ a. value (OtherAddr a) (λ b. row (codes "and") (done (Also a b true)) (row (codes "or") (done (Also a b false)) none)))) (left cursor.old)) }
     ensures end { end_of cursor.new ≡ end_of cursor.old }
@@ -174,7 +175,7 @@ fn also(shape: Shape, cursor: &mut Cursor<'_>) -> Result<Fault, LineRefusal>
 }
 
 /// Reads what follows `af-instead`.
-#[tactic(auto, unfolding(crate::specs::Forms::read))]
+#[tactic(auto, unfolding(crate::specs::Reader::read))]
 fn instead(shape: Shape, cursor: &mut Cursor<'_>) -> Result<Fault, LineRefusal>
     ensures value { Gives result (left cursor.new) (read shape (end_of cursor.old) (value Addr (λ a. value (OtherAddr a) (λ b. done (Instead a b)))) (left cursor.old)) }
     ensures end { end_of cursor.new ≡ end_of cursor.old }
@@ -185,7 +186,7 @@ fn instead(shape: Shape, cursor: &mut Cursor<'_>) -> Result<Fault, LineRefusal>
 }
 
 /// Reads a fault.
-#[tactic(auto, unfolding(crate::specs::Forms::read, crate::specs::Lines::fault))]
+#[tactic(auto, unfolding(crate::specs::Reader::read, crate::specs::Lines::fault))]
 fn fault(word: &Token<'_>, shape: Shape, cursor: &mut Cursor<'_>) -> Result<Fault, LineRefusal>
     ensures value { Gives result (left cursor.new) (branch shape (end_of cursor.old) (fault) (token_view word.now) (left cursor.old)) }
     ensures end { end_of cursor.new ≡ end_of cursor.old }
@@ -214,7 +215,7 @@ fn fault(word: &Token<'_>, shape: Shape, cursor: &mut Cursor<'_>) -> Result<Faul
 }
 
 /// Reads what follows `tick`.
-#[tactic(auto, unfolding(crate::specs::Forms::read))]
+#[tactic(auto, unfolding(crate::specs::Reader::read))]
 fn tick(shape: Shape, cursor: &mut Cursor<'_>) -> Result<Event, LineRefusal>
     ensures value { Gives result (left cursor.new) (read shape (end_of cursor.old) (tick) (left cursor.old)) }
     ensures end { end_of cursor.new ≡ end_of cursor.old }
@@ -230,7 +231,7 @@ fn tick(shape: Shape, cursor: &mut Cursor<'_>) -> Result<Event, LineRefusal>
 }
 
 /// Reads what follows `burn`.
-#[tactic(auto, unfolding(crate::specs::Forms::read))]
+#[tactic(auto, unfolding(crate::specs::Reader::read))]
 fn burn(shape: Shape, cursor: &mut Cursor<'_>) -> Result<Event, LineRefusal>
     ensures value { Gives result (left cursor.new) (read shape (end_of cursor.old) (value FlashAddr (λ a. value Data (λ x. done (Burn a x)))) (left cursor.old)) }
     ensures end { end_of cursor.new ≡ end_of cursor.old }
@@ -241,7 +242,7 @@ fn burn(shape: Shape, cursor: &mut Cursor<'_>) -> Result<Event, LineRefusal>
 }
 
 /// Reads what follows `flip`.
-#[tactic(auto, unfolding(crate::specs::Forms::read))]
+#[tactic(auto, unfolding(crate::specs::Reader::read))]
 fn flip(shape: Shape, cursor: &mut Cursor<'_>) -> Result<Event, LineRefusal>
     ensures value { Gives result (left cursor.new) (read shape (end_of cursor.old) (spot FlashSpot (λ s. done (Flip s))) (left cursor.old)) }
     ensures end { end_of cursor.new ≡ end_of cursor.old }
@@ -251,7 +252,7 @@ fn flip(shape: Shape, cursor: &mut Cursor<'_>) -> Result<Event, LineRefusal>
 }
 
 /// Reads what follows `ram`.
-#[tactic(auto, unfolding(crate::specs::Forms::read))]
+#[tactic(auto, unfolding(crate::specs::Reader::read))]
 fn ram_event(shape: Shape, cursor: &mut Cursor<'_>) -> Result<Event, LineRefusal>
     ensures value { Gives result (left cursor.new) (read shape (end_of cursor.old) (mapped Ram ram_call) (left cursor.old)) }
     ensures end { end_of cursor.new ≡ end_of cursor.old }
@@ -262,7 +263,7 @@ fn ram_event(shape: Shape, cursor: &mut Cursor<'_>) -> Result<Event, LineRefusal
 }
 
 /// Reads what follows `fls`.
-#[tactic(auto, unfolding(crate::specs::Forms::read))]
+#[tactic(auto, unfolding(crate::specs::Reader::read))]
 fn fls_event(shape: Shape, cursor: &mut Cursor<'_>) -> Result<Event, LineRefusal>
     ensures value { Gives result (left cursor.new) (read shape (end_of cursor.old) (mapped Fls fls_call) (left cursor.old)) }
     ensures end { end_of cursor.new ≡ end_of cursor.old }
@@ -273,7 +274,7 @@ fn fls_event(shape: Shape, cursor: &mut Cursor<'_>) -> Result<Event, LineRefusal
 }
 
 /// Reads what follows `app`.
-#[tactic(auto, unfolding(crate::specs::Forms::read))]
+#[tactic(auto, unfolding(crate::specs::Reader::read))]
 fn app_event(shape: Shape, cursor: &mut Cursor<'_>) -> Result<Event, LineRefusal>
     ensures value { Gives result (left cursor.new) (read shape (end_of cursor.old) (mapped App app_op) (left cursor.old)) }
     ensures end { end_of cursor.new ≡ end_of cursor.old }
@@ -284,7 +285,7 @@ fn app_event(shape: Shape, cursor: &mut Cursor<'_>) -> Result<Event, LineRefusal
 }
 
 /// Reads what follows `inject`.
-#[tactic(auto, unfolding(crate::specs::Forms::read))]
+#[tactic(auto, unfolding(crate::specs::Reader::read))]
 fn inject_event(shape: Shape, cursor: &mut Cursor<'_>) -> Result<Event, LineRefusal>
     ensures value { Gives result (left cursor.new) (read shape (end_of cursor.old) (mapped Inject fault) (left cursor.old)) }
     ensures end { end_of cursor.new ≡ end_of cursor.old }
@@ -295,7 +296,7 @@ fn inject_event(shape: Shape, cursor: &mut Cursor<'_>) -> Result<Event, LineRefu
 }
 
 /// Reads what stands on a line before its requests.
-#[tactic(auto, unfolding(crate::specs::Forms::read, crate::specs::Lines::event))]
+#[tactic(auto, unfolding(crate::specs::Reader::read, crate::specs::Lines::event))]
 pub fn event(word: &Token<'_>, shape: Shape, cursor: &mut Cursor<'_>) -> Result<Event, LineRefusal>
     ensures value { Gives result (left cursor.new) (branch shape (end_of cursor.old) (event) (token_view word.now) (left cursor.old)) }
     ensures end { end_of cursor.new ≡ end_of cursor.old }

@@ -4,7 +4,8 @@ ghost use Rattle.std.specs.Prelude.{◌≡◌, ◌==◌, ◌<◌, ◌^◌, Err, 
 ghost use Rattle.std.specs.Str.{bytes_eq};
 ghost use Rattle.mt_word.specs.Word.{width_bits};
 ghost use Rattle.mt_text.specs.Tokens.{begins_word, spot_of};
-ghost use Rattle.mt_text.specs.Forms.{read, Gives, value, spot, done, Num, Addr, FlashAddr, OtherAddr, Data, Bit, RamSpot, OtherSpot, FlashSpot};
+ghost use Rattle.mt_text.specs.Forms.{value, spot, done, Num, Addr, FlashAddr, OtherAddr, Data, Bit, RamSpot, OtherSpot, FlashSpot};
+ghost use Rattle.mt_text.specs.Reader.{read, Gives};
 ghost use Rattle.mt_text.specs.Lines.{direction};
 ghost use Rattle.mt_text.specs.Cursors.{left, end_of, token_view};
 
@@ -44,7 +45,7 @@ fn fits(width: Width, word: u64) -> bool
 }
 
 /// Reads a number.
-#[tactic(auto, unfolding(crate::specs::Forms::read))]
+#[tactic(auto, unfolding(crate::specs::Reader::read))]
 pub fn number(shape: Shape, cursor: &mut Cursor<'_>) -> Result<u32, LineRefusal>
     ensures value { Gives result (left cursor.new) (read shape (end_of cursor.old) (value Num (λ n. done n)) (left cursor.old)) }
     ensures end { end_of cursor.new ≡ end_of cursor.old }
@@ -60,7 +61,7 @@ pub fn number(shape: Shape, cursor: &mut Cursor<'_>) -> Result<u32, LineRefusal>
 }
 
 /// Reads an address.
-#[tactic(auto, unfolding(crate::specs::Forms::read))]
+#[tactic(auto, unfolding(crate::specs::Reader::read))]
 pub fn address(shape: Shape, cursor: &mut Cursor<'_>) -> Result<u32, LineRefusal>
     ensures value { Gives result (left cursor.new) (read shape (end_of cursor.old) (value Addr (λ n. done n)) (left cursor.old)) }
     ensures end { end_of cursor.new ≡ end_of cursor.old }
@@ -81,7 +82,7 @@ pub fn address(shape: Shape, cursor: &mut Cursor<'_>) -> Result<u32, LineRefusal
 }
 
 /// Reads a flash address.
-#[tactic(auto, unfolding(crate::specs::Forms::read))]
+#[tactic(auto, unfolding(crate::specs::Reader::read))]
 pub fn flash_address(shape: Shape, cursor: &mut Cursor<'_>) -> Result<u32, LineRefusal>
     ensures value { Gives result (left cursor.new) (read shape (end_of cursor.old) (value FlashAddr (λ n. done n)) (left cursor.old)) }
     ensures end { end_of cursor.new ≡ end_of cursor.old }
@@ -102,7 +103,7 @@ pub fn flash_address(shape: Shape, cursor: &mut Cursor<'_>) -> Result<u32, LineR
 }
 
 /// Reads the address of another word.
-#[tactic(auto, unfolding(crate::specs::Forms::read))]
+#[tactic(auto, unfolding(crate::specs::Reader::read))]
 pub fn other_address(first: u32, shape: Shape, cursor: &mut Cursor<'_>) -> Result<u32, LineRefusal>
     ensures value { Gives result (left cursor.new) (read shape (end_of cursor.old) (value (OtherAddr first) (λ n. done n)) (left cursor.old)) }
     ensures end { end_of cursor.new ≡ end_of cursor.old }
@@ -126,7 +127,7 @@ pub fn other_address(first: u32, shape: Shape, cursor: &mut Cursor<'_>) -> Resul
 }
 
 /// Reads a word.
-#[tactic(auto, unfolding(crate::specs::Forms::read))]
+#[tactic(auto, unfolding(crate::specs::Reader::read))]
 pub fn data(shape: Shape, cursor: &mut Cursor<'_>) -> Result<u64, LineRefusal>
     ensures value { Gives result (left cursor.new) (read shape (end_of cursor.old) (value Data (λ n. done n)) (left cursor.old)) }
     ensures end { end_of cursor.new ≡ end_of cursor.old }
@@ -147,7 +148,7 @@ pub fn data(shape: Shape, cursor: &mut Cursor<'_>) -> Result<u64, LineRefusal>
 }
 
 /// Reads a bit.
-#[tactic(auto, unfolding(crate::specs::Forms::read))]
+#[tactic(auto, unfolding(crate::specs::Reader::read))]
 pub fn bit(shape: Shape, cursor: &mut Cursor<'_>) -> Result<bool, LineRefusal>
     ensures value { Gives result (left cursor.new) (read shape (end_of cursor.old) (value Bit (λ n. done (n == 1))) (left cursor.old)) }
     ensures end { end_of cursor.new ≡ end_of cursor.old }
@@ -166,7 +167,7 @@ pub fn bit(shape: Shape, cursor: &mut Cursor<'_>) -> Result<bool, LineRefusal>
 }
 
 /// Reads a direction: whether it rises.
-#[tactic(auto, unfolding(crate::specs::Forms::read))]
+#[tactic(auto, unfolding(crate::specs::Reader::read))]
 pub fn direction(shape: Shape, cursor: &mut Cursor<'_>) -> Result<bool, LineRefusal>
     ensures value { Gives result (left cursor.new) (read shape (end_of cursor.old) (direction (λ up. done up)) (left cursor.old)) }
     ensures end { end_of cursor.new ≡ end_of cursor.old }
@@ -182,7 +183,7 @@ pub fn direction(shape: Shape, cursor: &mut Cursor<'_>) -> Result<bool, LineRefu
 }
 
 /// Reads a spot.
-#[tactic(auto, unfolding(crate::specs::Forms::read))]
+#[tactic(auto, unfolding(crate::specs::Reader::read))]
 pub fn spot(shape: Shape, cursor: &mut Cursor<'_>) -> Result<Spot, LineRefusal>
     ensures value { Gives result (left cursor.new) (read shape (end_of cursor.old) (spot RamSpot (λ s. done s)) (left cursor.old)) }
     ensures end { end_of cursor.new ≡ end_of cursor.old }
@@ -209,7 +210,7 @@ pub fn spot(shape: Shape, cursor: &mut Cursor<'_>) -> Result<Spot, LineRefusal>
 }
 
 /// Reads a spot of another word.
-#[tactic(auto, unfolding(crate::specs::Forms::read))]
+#[tactic(auto, unfolding(crate::specs::Reader::read))]
 pub fn other_spot(first: u32, shape: Shape, cursor: &mut Cursor<'_>) -> Result<Spot, LineRefusal>
     ensures value { Gives result (left cursor.new) (read shape (end_of cursor.old) (spot (OtherSpot first) (λ s. done s)) (left cursor.old)) }
     ensures end { end_of cursor.new ≡ end_of cursor.old }
@@ -239,7 +240,7 @@ pub fn other_spot(first: u32, shape: Shape, cursor: &mut Cursor<'_>) -> Result<S
 }
 
 /// Reads a spot of the flash.
-#[tactic(auto, unfolding(crate::specs::Forms::read))]
+#[tactic(auto, unfolding(crate::specs::Reader::read))]
 pub fn flash_spot(shape: Shape, cursor: &mut Cursor<'_>) -> Result<Spot, LineRefusal>
     ensures value { Gives result (left cursor.new) (read shape (end_of cursor.old) (spot FlashSpot (λ s. done s)) (left cursor.old)) }
     ensures end { end_of cursor.new ≡ end_of cursor.old }
