@@ -10,8 +10,12 @@ use Rattle.mt_text.specs.declared.line.Line.{Line}
 use Rattle.mt_text.specs.declared.line.LineKind.TheVariants.{Spelling}
 use Rattle.mt_text.specs.declared.line.LineRefusal.{LineRefusal}
 use Rattle.mt_text.specs.declared.request.Mark.{Mark}
+use Rattle.mt_text.specs.declared.value.NumberSlot.{NumberSlot}
+use Rattle.mt_text.specs.declared.value.NumberSlot.TheVariants.{Any, Ram, Flash, OtherRam}
+use Rattle.mt_text.specs.declared.value.SpotPlace.{SpotPlace}
+use Rattle.mt_text.specs.declared.value.SpotPlace.TheVariants as place
 use Rattle.mt_text.specs.Tokens.{Token}
-use Rattle.mt_text.specs.Forms.{Form, done, none, row, barred, value, spot, mark, Entry, Opens, Breaks, value_at, spot_at, mark_at, ◌>>=◌, refused, at_place}
+use Rattle.mt_text.specs.Forms.{Form, done, none, row, barred, value, spot, mark, Entry, Opens, Breaks, Slot, Num, Addr, FlashAddr, OtherAddr, SpotSlot, RamSpot, OtherSpot, FlashSpot, value_at, spot_at, mark_at, ◌>>=◌, refused, at_place}
 use Rattle.mt_text.specs.Lines.{Part, Requests, Operation, request}
 
 -- the next token, and those after it
@@ -54,6 +58,18 @@ named name (n ∷ ns) word = if bytes_eq word (name n) then Some n else named na
 abbrev pub read_entry : {X : Type 0} → Shape → ℕ → Entry X → ℕ → List Token → Result (X × List Token) LineRefusal
 read_entry shape end (Opens form) place ts = read shape end form ts
 read_entry shape end (Breaks kind form) place ts = refused kind place
+
+-- the places of the code's numbers and spots
+abbrev pub slot_of : NumberSlot → Slot
+slot_of Any = Num
+slot_of Ram = Addr
+slot_of Flash = FlashAddr
+slot_of (OtherRam a) = OtherAddr a
+
+abbrev pub spot_slot_of : SpotPlace → SpotSlot
+spot_slot_of place.Ram = RamSpot
+spot_slot_of (place.OtherRam a) = OtherSpot a
+spot_slot_of place.Flash = FlashSpot
 
 -- ---- lines
 

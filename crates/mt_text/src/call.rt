@@ -10,7 +10,7 @@ use crate::cursor::Cursor;
 use crate::line::{FlsCall, LineKind, LineRefusal, RamCall};
 use crate::names::{FlsService, RamService, fls_service, ram_service};
 use crate::token::Token;
-use crate::value::{number, refused};
+use crate::value::{NumberSlot, number, refused};
 use mt_port::{HandlerCall, Shape};
 
 /// Reads a service of RamTst.
@@ -48,17 +48,29 @@ fn ram_call_of(
         RamService::GetExecutionStatus => Ok(RamCall::GetExecutionStatus),
         RamService::GetTestResult => Ok(RamCall::GetTestResult),
         RamService::GetTestResultPerBlock => Ok(RamCall::GetTestResultPerBlock(number(
-            shape, cursor,
+            NumberSlot::Any,
+            shape,
+            cursor,
         )?)),
         RamService::GetAlgParams => Ok(RamCall::GetAlgParams),
         RamService::GetTestAlgorithm => Ok(RamCall::GetTestAlgorithm),
         RamService::GetNumberOfTestedCells => Ok(RamCall::GetNumberOfTestedCells),
-        RamService::SelectAlgParams => Ok(RamCall::SelectAlgParams(number(shape, cursor)?)),
+        RamService::SelectAlgParams => Ok(RamCall::SelectAlgParams(number(
+            NumberSlot::Any,
+            shape,
+            cursor,
+        )?)),
         RamService::ChangeNumberOfTestedCells => Ok(RamCall::ChangeNumberOfTestedCells(number(
-            shape, cursor,
+            NumberSlot::Any,
+            shape,
+            cursor,
         )?)),
         RamService::RunFullTest => Ok(RamCall::RunFullTest),
-        RamService::RunPartialTest => Ok(RamCall::RunPartialTest(number(shape, cursor)?)),
+        RamService::RunPartialTest => Ok(RamCall::RunPartialTest(number(
+            NumberSlot::Any,
+            shape,
+            cursor,
+        )?)),
         RamService::GetVersionInfo => Ok(RamCall::GetVersionInfo),
     }
 }
@@ -96,7 +108,9 @@ fn ram_handler_call_of(
         RamService::GetExecutionStatus => Ok(HandlerCall::RamGetExecutionStatus),
         RamService::GetTestResult => Ok(HandlerCall::RamGetTestResult),
         RamService::GetTestResultPerBlock => Ok(HandlerCall::RamGetTestResultPerBlock(number(
-            shape, cursor,
+            NumberSlot::Any,
+            shape,
+            cursor,
         )?)),
         RamService::Init
         | RamService::DeInit
@@ -139,7 +153,7 @@ fn fls_call_of(
     match service {
         FlsService::Init => Ok(FlsCall::Init),
         FlsService::DeInit => Ok(FlsCall::DeInit),
-        FlsService::StartFgnd => Ok(FlsCall::StartFgnd(number(shape, cursor)?)),
+        FlsService::StartFgnd => Ok(FlsCall::StartFgnd(number(NumberSlot::Any, shape, cursor)?)),
         FlsService::Abort => Ok(FlsCall::Abort),
         FlsService::Suspend => Ok(FlsCall::Suspend),
         FlsService::Resume => Ok(FlsCall::Resume),

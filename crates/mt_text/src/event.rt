@@ -14,10 +14,7 @@ use crate::call::{fls_call, ram_call};
 use crate::cursor::Cursor;
 use crate::line::{Event, LineKind, LineRefusal};
 use crate::token::Token;
-use crate::value::{
-    address, bit, data, direction, flash_address, flash_spot, is, other_address, other_spot,
-    refused, spot,
-};
+use crate::value::{NumberSlot, SpotPlace, bit, data, direction, is, number, refused, spot};
 use mt_fault::{Fault, Spot};
 use mt_port::{AppOp, Shape};
 
@@ -28,22 +25,22 @@ pub fn app_op(word: &Token<'_>, shape: Shape, cursor: &mut Cursor<'_>) -> Result
     ensures end { end_of cursor.new ≡ end_of cursor.old }
 {
     if is(word, b"r") {
-        let addr = address(shape, cursor)?;
+        let addr = number(NumberSlot::Ram, shape, cursor)?;
         Ok(AppOp::Read { addr })
     } else if is(word, b"w") {
-        let addr = address(shape, cursor)?;
+        let addr = number(NumberSlot::Ram, shape, cursor)?;
         let word = data(shape, cursor)?;
         Ok(AppOp::Write { addr, word })
     } else if is(word, b"add") {
-        let addr = address(shape, cursor)?;
+        let addr = number(NumberSlot::Ram, shape, cursor)?;
         let word = data(shape, cursor)?;
         Ok(AppOp::Add { addr, word })
     } else if is(word, b"copy") {
-        let src = address(shape, cursor)?;
-        let dst = address(shape, cursor)?;
+        let src = number(NumberSlot::Ram, shape, cursor)?;
+        let dst = number(NumberSlot::Ram, shape, cursor)?;
         Ok(AppOp::Copy { src, dst })
     } else if is(word, b"f") {
-        let addr = flash_address(shape, cursor)?;
+        let addr = number(NumberSlot::Flash, shape, cursor)?;
         Ok(AppOp::Flash { addr })
     } else {
         refused(LineKind::Spelling, word.place)
@@ -56,8 +53,8 @@ fn coupled(shape: Shape, cursor: &mut Cursor<'_>) -> Result<(Spot, Spot), LineRe
     ensures value { Gives result (left cursor.new) (read shape (end_of cursor.old) (spot RamSpot (λ a. spot (OtherSpot a.word) (λ v. done (a, v)))) (left cursor.old)) }
     ensures end { end_of cursor.new ≡ end_of cursor.old }
 {
-    let agg = spot(shape, cursor)?;
-    let vic = other_spot(agg.word, shape, cursor)?;
+    let agg = spot(SpotPlace::Ram, shape, cursor)?;
+    let vic = spot(SpotPlace::OtherRam(agg.word), shape, cursor)?;
     Ok((agg, vic))
 }
 
@@ -67,7 +64,7 @@ fn stuck_at(shape: Shape, cursor: &mut Cursor<'_>) -> Result<Fault, LineRefusal>
     ensures value { Gives result (left cursor.new) (read shape (end_of cursor.old) (spot RamSpot (λ v. value Bit (λ b. done (StuckAt v (b == 1))))) (left cursor.old)) }
     ensures end { end_of cursor.new ≡ end_of cursor.old }
 {
-    let vic = spot(shape, cursor)?;
+    let vic = spot(SpotPlace::Ram, shape, cursor)?;
     let value = bit(shape, cursor)?;
     Ok(Fault::StuckAt { vic, value })
 }
@@ -78,7 +75,7 @@ fn cannot_rise(shape: Shape, cursor: &mut Cursor<'_>) -> Result<Fault, LineRefus
     ensures value { Gives result (left cursor.new) (read shape (end_of cursor.old) (spot RamSpot (λ v. done (CannotRise v))) (left cursor.old)) }
     ensures end { end_of cursor.new ≡ end_of cursor.old }
 {
-    let vic = spot(shape, cursor)?;
+    let vic = spot(SpotPlace::Ram, shape, cursor)?;
     Ok(Fault::CannotRise { vic })
 }
 
@@ -88,7 +85,7 @@ fn cannot_fall(shape: Shape, cursor: &mut Cursor<'_>) -> Result<Fault, LineRefus
     ensures value { Gives result (left cursor.new) (read shape (end_of cursor.old) (spot RamSpot (λ v. done (CannotFall v))) (left cursor.old)) }
     ensures end { end_of cursor.new ≡ end_of cursor.old }
 {
-    let vic = spot(shape, cursor)?;
+    let vic = spot(SpotPlace::Ram, shape, cursor)?;
     Ok(Fault::CannotFall { vic })
 }
 
@@ -143,7 +140,7 @@ fn no_cell(shape: Shape, cursor: &mut Cursor<'_>) -> Result<Fault, LineRefusal>
     ensures value { Gives result (left cursor.new) (read shape (end_of cursor.old) (value Addr (λ a. value Data (λ x. done (NoCell a x)))) (left cursor.old)) }
     ensures end { end_of cursor.new ≡ end_of cursor.old }
 {
-    let addr = address(shape, cursor)?;
+    let addr = number(NumberSlot::Ram, shape, cursor)?;
     let seen = data(shape, cursor)?;
     Ok(Fault::NoCell { addr, seen })
 }
@@ -154,8 +151,8 @@ fn also(shape: Shape, cursor: &mut Cursor<'_>) -> Result<Fault, LineRefusal>
     ensures value { Gives result (left cursor.new) (read shape (end_of cursor.old) (value Addr (λ a. value (OtherAddr a) (λ b. row (codes "and") (done (Also a b true)) (row (codes "or") (done (Also a b false)) none)))) (left cursor.old)) }
     ensures end { end_of cursor.new ≡ end_of cursor.old }
 {
-    let addr = address(shape, cursor)?;
-    let other = other_address(addr, shape, cursor)?;
+    let addr = number(NumberSlot::Ram, shape, cursor)?;
+    let other = number(NumberSlot::OtherRam(addr), shape, cursor)?;
     let word = cursor.next()?;
     if is(&word, b"and") {
         Ok(Fault::Also {
@@ -180,8 +177,8 @@ fn instead(shape: Shape, cursor: &mut Cursor<'_>) -> Result<Fault, LineRefusal>
     ensures value { Gives result (left cursor.new) (read shape (end_of cursor.old) (value Addr (λ a. value (OtherAddr a) (λ b. done (Instead a b)))) (left cursor.old)) }
     ensures end { end_of cursor.new ≡ end_of cursor.old }
 {
-    let addr = address(shape, cursor)?;
-    let other = other_address(addr, shape, cursor)?;
+    let addr = number(NumberSlot::Ram, shape, cursor)?;
+    let other = number(NumberSlot::OtherRam(addr), shape, cursor)?;
     Ok(Fault::Instead { addr, other })
 }
 
@@ -236,7 +233,7 @@ fn burn(shape: Shape, cursor: &mut Cursor<'_>) -> Result<Event, LineRefusal>
     ensures value { Gives result (left cursor.new) (read shape (end_of cursor.old) (value FlashAddr (λ a. value Data (λ x. done (Burn a x)))) (left cursor.old)) }
     ensures end { end_of cursor.new ≡ end_of cursor.old }
 {
-    let addr = flash_address(shape, cursor)?;
+    let addr = number(NumberSlot::Flash, shape, cursor)?;
     let word = data(shape, cursor)?;
     Ok(Event::Burn { addr, word })
 }
@@ -247,7 +244,7 @@ fn flip(shape: Shape, cursor: &mut Cursor<'_>) -> Result<Event, LineRefusal>
     ensures value { Gives result (left cursor.new) (read shape (end_of cursor.old) (spot FlashSpot (λ s. done (Flip s))) (left cursor.old)) }
     ensures end { end_of cursor.new ≡ end_of cursor.old }
 {
-    let at = flash_spot(shape, cursor)?;
+    let at = spot(SpotPlace::Flash, shape, cursor)?;
     Ok(Event::Flip(at))
 }
 
