@@ -288,7 +288,7 @@ impl Course {
     #[inline(always)]
     pub fn save_one<P: Port>(&mut self, port: &mut P, alg: &Algorithm, frame: Frame)
         requires course { IsCourse (job_of alg.now frame) self.old }
-        requires ready { IsReady (P.state port.old) frame self.old 1 }
+        requires ready { IsReady (P.state port.old) (view_of (job_of alg.now frame) self.old) 1 }
         requires phase { self.old.made < self.old.testing_from }
         ensures course { IsCourse (job_of alg.now frame) self.new }
         ensures step { IsStepOf (job_of alg.now frame) self.old (P.state port.old) (P.tape port.old) self.new (P.state port.new) (P.tape port.new) }
@@ -302,7 +302,7 @@ impl Course {
     #[inline(always)]
     pub fn test_one<P: Port>(&mut self, port: &mut P, alg: &Algorithm, frame: Frame, width: Width)
         requires course { IsCourse (job_of alg.now frame) self.old }
-        requires ready { IsReady (P.state port.old) frame self.old 1 }
+        requires ready { IsReady (P.state port.old) (view_of (job_of alg.now frame) self.old) 1 }
         requires width { width ≡ (P.state port.old).shape.width }
         requires from { self.old.testing_from ≤ self.old.made }
         requires to { self.old.made < self.old.ending_from }
@@ -318,7 +318,7 @@ impl Course {
     #[inline(always)]
     pub fn end_one<P: Port>(&mut self, port: &mut P, alg: &Algorithm, frame: Frame)
         requires course { IsCourse (job_of alg.now frame) self.old }
-        requires ready { IsReady (P.state port.old) frame self.old 1 }
+        requires ready { IsReady (P.state port.old) (view_of (job_of alg.now frame) self.old) 1 }
         requires from { self.old.ending_from ≤ self.old.made }
         requires to { self.old.made < self.old.ending_from + self.old.slice.n }
         ensures course { IsCourse (job_of alg.now frame) self.new }
@@ -332,7 +332,7 @@ impl Course {
     /// Makes the next access.
     pub fn step<P: Port>(&mut self, port: &mut P, alg: &Algorithm, frame: Frame)
         requires course { IsCourse (job_of alg.now frame) self.old }
-        requires ready { IsReady (P.state port.old) frame self.old 1 }
+        requires ready { IsReady (P.state port.old) (view_of (job_of alg.now frame) self.old) 1 }
         requires left { self.old.made < self.old.ending_from + self.old.slice.n }
         ensures course { IsCourse (job_of alg.now frame) self.new }
         ensures step { IsStepOf (job_of alg.now frame) self.old (P.state port.old) (P.tape port.old) self.new (P.state port.new) (P.tape port.new) }
