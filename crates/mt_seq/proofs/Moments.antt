@@ -41,11 +41,11 @@ found p a (suc m) i e =
     elim (either (p a)) [
       | inl yes' ↦ (let same : a ≡ i = cc (rw yes' at e) in record { from = omega arith; to = omega arith; before = λ j f t. absurd (omega arith); here = ap p (sym same) ∙ yes' })
       | inr not' ↦ (let more : IsFirst p (a + 1) m i = found p (a + 1) m i (rw not' at e) in record {
-          from = omega (arith, more.from);
-          to = omega (arith, more.to);
-          before = λ j f t. elim (cases_eq a j) [ inl same ↦ ap p (sym same) ∙ not' | inr other ↦ more.before j (omega arith) t ];
-          here = more.here;
-        })
+        from = omega (arith, more.from);
+        to = omega (arith, more.to);
+        before = λ j f t. elim (cases_eq a j) [ inl same ↦ ap p (sym same) ∙ not' | inr other ↦ more.before j (omega arith) t ];
+        here = more.here;
+      })
     ]
 
 pub not_found : (p : ℕ → Bool) (a m : ℕ) → find p (range_with_len a m) ≡ None → (j : ℕ) → a ≤ j → j < a + m → p j ≡ false

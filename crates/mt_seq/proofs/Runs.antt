@@ -95,3 +95,13 @@ pub ready_step : (s : Stepping) (job again : Job) (c d : Course) (a b : Board) (
 ready_step s job again c d a b ta tb view same step k ready =
     let here : IsStepOf job c a ta d b tb = subst (λ (j : Job). IsStepOf j c a ta d b tb) (sym same) step in
     ready_next (view_of job c) (view_of job d) a b ta tb here k (subst (λ (x : Stepping). IsReady a x (k + 1)) (sym view) ready)
+
+pub ready_less : (b : Board) (s : Stepping) (count k : ℕ) → IsReady b s count → k ≤ count → IsReady b s k
+ready_less b s count k ready h = record {
+  held = ready.held;
+  inside = ready.inside;
+  background = ready.background;
+  fill = ready.fill;
+  fit = ready.fit;
+  room = omega (arith, ready.room);
+}

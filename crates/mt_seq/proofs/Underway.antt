@@ -100,12 +100,12 @@ next_same b s width same saved =
     let front : List Item = saving s.job.policy s.slice in
     elim (cases_lt s.made (length front)) [
       | inl lt ↦
-        ap (λ (l : List Item). slice_get l s.made) (append_assoc front (testing width s.job s.slice s.saved steps) (ending s.job s.slice s.saved))
-        ∙ front_same front _ _ s.made lt
-        ∙ ap (λ (l : List Item). slice_get l s.made) (sym (append_assoc front (testing b.shape.width s.job s.slice all steps) (ending s.job s.slice all)))
+          ap (λ (l : List Item). slice_get l s.made) (append_assoc front (testing width s.job s.slice s.saved steps) (ending s.job s.slice s.saved))
+          ∙ front_same front _ _ s.made lt
+          ∙ ap (λ (l : List Item). slice_get l s.made) (sym (append_assoc front (testing b.shape.width s.job s.slice all steps) (ending s.job s.slice all)))
       | inr le ↦
-        ap (λ (l : List ℕ). slice_get (listed width s.job s.slice l steps) s.made) (saved ∙ whole_saved s.job.policy b.fault b.words s.slice s.made le)
-        ∙ ap (λ (w : Width). slice_get (listed w s.job s.slice all steps) s.made) same
+          ap (λ (l : List ℕ). slice_get (listed width s.job s.slice l steps) s.made) (saved ∙ whole_saved s.job.policy b.fault b.words s.slice s.made le)
+          ∙ ap (λ (w : Width). slice_get (listed w s.job s.slice all steps) s.made) same
     ]
 
 act_no_look : (width : Width) (addr back : ℕ) (act : Act) → IsNoLook (act_on width addr back act)
@@ -180,8 +180,8 @@ saved_more b s now told tape item answer' sound is at look =
           looked.0 ∙ ap (λ (l : List ℕ). l ++ answer' ∷ []) is.saved ∙ ap (λ (w : ℕ). take s.made all ++ w ∷ []) word
           ∙ sym (take_more all s.made _ (saved_at s.job.policy b.fault b.words s.slice s.made lt)))
       | inr le ↦
-        no_look_saves item s.saved answer' (later_no_look b.shape.width s.job s.slice all steps s.made item le at)
-        ∙ is.saved ∙ whole_saved s.job.policy b.fault b.words s.slice s.made le ∙ sym (whole_saved s.job.policy b.fault b.words s.slice (s.made + 1) (omega arith))
+          no_look_saves item s.saved answer' (later_no_look b.shape.width s.job s.slice all steps s.made item le at)
+          ∙ is.saved ∙ whole_saved s.job.policy b.fault b.words s.slice s.made le ∙ sym (whole_saved s.job.policy b.fault b.words s.slice (s.made + 1) (omega arith))
     ]
 
 differs_more : (d g : Bool) → (not d && g) ≡ not (d || not g)

@@ -16,8 +16,12 @@ run-requires-clause-ready g c =
 
 pub run-requires-clause-to : goal.run-requires-clause-to
 run-requires-clause-to g c =
-    omega (arith, keeping_hold (job_of c.args.alg.now c.args.frame) c.args.slice.n c.requires.keeps, c.requires.until,
-    course_end (job_of c.args.alg.now c.args.frame) c.args.slice c.new-course.result c.new-course.ensures.course c.new-course.ensures.view)
+    omega (
+      arith,
+      keeping_hold (job_of c.args.alg.now c.args.frame) c.args.slice.n c.requires.keeps,
+      c.requires.until,
+      course_end (job_of c.args.alg.now c.args.frame) c.args.slice c.new-course.result c.new-course.ensures.course c.new-course.ensures.view,
+    )
 
 pub restore-requires-clause-held : goal.restore-requires-clause-held
 restore-requires-clause-held g c = c.run.ensures.runs.held ∙ c.requires.held

@@ -53,7 +53,7 @@ make_part-requires-clause-until g c =
 
 part : (g : Over) (c : goal.After-release-in-Some g)
     → Ran (backed_out (g.P.Port.state c.args.port.now) (job_of c.args.alg.now c.args.frame) c.args.slice c.in-Some.until) (g.P.Port.state c.args.port.now) (g.P.Port.state c.release-in-Some.new.self) (g.P.Port.tape c.args.port.now) (g.P.Port.tape c.release-in-Some.new.self)
-      (passes (g.P.Port.state c.hold-in-Some.new.self).fault (g.P.Port.state c.hold-in-Some.new.self).words [] (backed_out (g.P.Port.state c.hold-in-Some.new.self) (job_of c.args.alg.now c.args.frame) c.args.slice c.in-Some.until))
+    (passes (g.P.Port.state c.hold-in-Some.new.self).fault (g.P.Port.state c.hold-in-Some.new.self).words [] (backed_out (g.P.Port.state c.hold-in-Some.new.self) (job_of c.args.alg.now c.args.frame) c.args.slice c.in-Some.until))
 part g c =
     let a = g.P.Port.state c.args.port.now in
     let b = g.P.Port.state c.hold-in-Some.new.self in
