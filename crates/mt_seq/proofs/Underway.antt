@@ -1,5 +1,5 @@
 -- A sequence that is under way, one access later.
-use Rattle.std.proofs.Common.{ℕ, zero, suc, add-one, ◌≡◌, ◌+◌, ◌-◌, ◌<◌, ◌≤◌, Bool, true, false, List, [], ◌∷◌, ◌++◌, map, take, length, get_or, length-append, append-nil, append_assoc, refl, arith, ap, sym, ◌∙◌, subst, Option, Some, inl, inr}
+use Rattle.std.proofs.Common.{ℕ, zero, suc, add-one, ◌≡◌, ◌+◌, ◌-◌, ◌<◌, ◌≤◌, Bool, true, false, List, [], ◌∷◌, ◌++◌, take, length, append-nil, append_assoc, refl, arith, ap, sym, ◌∙◌, subst, Option, Some, inl, inr}
 use Rattle.std.specs.Prelude.{not, slice_get, All}
 use mathlib.Core.Bool.{◌||◌, ◌&&◌}
 use Rattle.std.proofs.Math.Seq.{take-suc}
@@ -29,9 +29,8 @@ use Rattle.mt_port.specs.declared.board.Shape.{Shape}
 use Rattle.mt_port.specs.Board.{Board, IsSound, memory_of}
 use Rattle.mt_seq.specs.declared.sequence.Slice.{Slice}
 use Rattle.mt_seq.specs.declared.sequence.Job.{Job}
-use Rattle.mt_seq.specs.Makes.{Makes, after_all}
 use Rattle.mt_seq.specs.Sequence.{saving, saved_words, testing, ending, listed, accesses_of, sequence, back_of, last_of}
-use Rattle.mt_seq.specs.Stepping.{Stepping, item_at, begun, stepped, saved_after, agreed, IsUnderway, IsStep, IsNoLook, IsLookAnswer}
+use Rattle.mt_seq.specs.Stepping.{Stepping, item_at, begun, saved_after, agreed, IsUnderway, IsStep, IsNoLook, IsLookAnswer}
 use Rattle.mt_seq.proofs.Lengths.{length-saving, length-cells}
 use Rattle.mt_seq.proofs.Makes.{Makes-nil, Makes-append}
 use Rattle.mt_seq.proofs.Moves.{saving_at}

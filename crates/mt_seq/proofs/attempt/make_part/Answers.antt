@@ -1,10 +1,8 @@
-use Rattle.std.proofs.Common.{◌≡◌, ◌+◌, ◌*◌, ◌<◌, ◌≤◌, length, refl, arith, ap, sym, subst, ◌∙◌}
+use Rattle.std.proofs.Common.{length, arith, ap, sym, subst, ◌∙◌}
 use Rattle.std.specs.Prelude.{All}
 use Rattle.std.proofs.lemmas.List.Elements.{All-nil}
 use Rattle.mt_word.specs.Word.{Fits}
-use Rattle.mt_plan.specs.Plan.{steps_of}
 use Rattle.mt_port.specs.declared.board.Shape.{Shape}
-use Rattle.mt_seq.specs.Sequence.{sequence_hold}
 use Rattle.mt_seq.specs.Stepping.{Stepping, job_of}
 use Rattle.mt_seq.proofs.Attempts.{begin_ready, course_end, keeping_hold, made_from, part_early, part_late, saved_all}
 use Rattle.mt_seq.proofs.attempt.make_part.Goals as goal
