@@ -9,7 +9,6 @@ use Rattle.mt_plan.specs.Plan.{steps_of}
 use Rattle.mt_seq.specs.declared.course.Course.{Course}
 use Rattle.mt_seq.specs.declared.sequence.Job.{Job}
 use Rattle.mt_seq.specs.declared.sequence.Verdict.{Verdict}
-use Rattle.mt_seq.specs.declared.stepper.Progress.{Progress}
 use Rattle.mt_seq.specs.declared.stepper.Progress.TheVariants.{More, Ended}
 use Rattle.mt_seq.specs.Sequence.{sequence, sequence_hold, sequence_verdict, verdict_of}
 use Rattle.mt_seq.specs.Stepping.{Stepping, progress_of, view_of, IsCourse}
@@ -45,3 +44,6 @@ sequences_end b told s a tape is all =
     let whole : take s.made (sequence b s.job s.slice) ≡ sequence b s.job s.slice = take_all s.made (sequence b s.job s.slice) (omega (arith, hold_length b s.job s.slice)) in
     let makes : Makes (sequence b s.job s.slice) b a told tape (not s.differs) = Makes-same whole refl is.makes in
     (makes, ap verdict_of makes.pass)
+
+pub to_in : (s : Stepping) (job : Job) (c : Course) (until : ℕ) → IsCourse job c → view_of job c ≡ s → until ≤ sequence_hold s.job s.slice.n → until ≤ c.ending_from + c.slice.n
+to_in s job c until is e h = omega (arith, ap (λ (x : Stepping). sequence_hold x.job x.slice.n) e, course_hold job c is)

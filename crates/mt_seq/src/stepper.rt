@@ -1,13 +1,13 @@
 //! A sequence that is made one access at a time.
 
-ghost use Rattle.std.specs.Prelude.{◌≡◌, ◌<◌, ◌≤◌, ◌+◌, ◌-◌, ◌^◌, [], Some, true, length, All, ◌&&◌, nat_lt, if◌then◌else◌};
+ghost use Rattle.std.specs.Prelude.{◌≡◌, ◌<◌, ◌≤◌, ◌+◌, ◌-◌, ◌^◌, ℕ, [], Some, true, length, All, ◌&&◌, nat_lt, if◌then◌else◌};
 ghost use Rattle.mt_word.specs.Word.{Fits};
 ghost use Rattle.mt_fault.specs.Items.{Item, passes};
 ghost use Rattle.mt_plan.specs.Plan.{IsAccepted, steps_of};
 ghost use Rattle.mt_seq.specs.Attempts.{keeps_words};
 ghost use Rattle.mt_seq.specs.Makes.{Makes};
 ghost use Rattle.mt_seq.specs.Sequence.{is_transparent, ending, sequence_hold};
-ghost use Rattle.mt_seq.specs.Stepping.{begun, item_at, item_of_access, place_of, progress_of, stepped, FitsAccess, IsStep};
+ghost use Rattle.mt_seq.specs.Stepping.{begun, item_at, item_of_access, place_of, progress_of, stepped, FitsAccess, IsReady, IsStep, Runs};
 
 use crate::access::Access;
 use crate::attempt::restore;
@@ -92,18 +92,29 @@ impl Stepper {
 
     /// Makes the next access.
     pub fn step<P: Port>(&mut self, port: &mut P) -> Progress
-        requires held { (P.state port.old).held ≡ true }
+        requires ready { IsReady (P.state port.old) self.old 1 }
         requires left { self.old.made < sequence_hold self.old.job self.old.slice.n }
-        requires inside { self.old.slice.first + self.old.slice.n ≤ (P.state port.old).shape.ram }
-        requires background { Fits (P.state port.old).shape.width self.old.job.background }
-        requires fill { Fits (P.state port.old).shape.width self.old.job.fill }
-        requires fit { All (Fits (P.state port.old).shape.width) self.old.saved }
-        requires room { (P.state port.old).count + 1 < 2 ^ 32 }
         ensures step { IsStep self.old (P.state port.old) (P.tape port.old) self.new (P.state port.new) (P.tape port.new) }
+        // What the next steps need.
+        ensures ready { (more : ℕ) → IsReady (P.state port.old) self.old (more + 1) → IsReady (P.state port.new) self.new more }
         ensures progress { result ≡ progress_of (sequence_hold self.new.job self.new.slice.n - self.new.made) self.new }
     {
         let frame = self.job.frame();
         self.course.step(port, &self.job.alg, frame);
+        self.course.progress()
+    }
+
+    /// Makes accesses until so many are made.
+    pub fn run<P: Port>(&mut self, port: &mut P, until: u32) -> Progress
+        requires ready { IsReady (P.state port.old) self.old (until - self.old.made) }
+        requires ahead { self.old.made ≤ until }
+        requires to { until ≤ sequence_hold self.old.job self.old.slice.n }
+        ensures runs { Runs self.old (P.state port.old) (P.tape port.old) self.new (P.state port.new) (P.tape port.new) }
+        ensures made { self.new.made ≡ until }
+        ensures progress { result ≡ progress_of (sequence_hold self.new.job self.new.slice.n - self.new.made) self.new }
+    {
+        let frame = self.job.frame();
+        self.course.run(port, &self.job.alg, frame, until);
         self.course.progress()
     }
 
@@ -126,10 +137,8 @@ impl Stepper {
         requires fit { All (Fits (P.state port.old).shape.width) self.saved }
         requires room { (P.state port.old).count + self.slice.n < 2 ^ 32 }
         ensures count { result ≡ (if nat_lt self.slice.n self.made then self.slice.n else 0) }
-        ensures made {
-          Makes (if nat_lt self.slice.n self.made then ending self.job self.slice self.saved else [])
-            (P.state port.old) (P.state port.new) (P.tape port.old) (P.tape port.new) true
-        }
+        ensures made { Makes (if nat_lt self.slice.n self.made then ending self.job self.slice self.saved else [])
+            (P.state port.old) (P.state port.new) (P.tape port.old) (P.tape port.new) true }
     {
         let slice = self.course.slice();
         if self.course.made() > u32::from(slice.n) {
@@ -138,5 +147,56 @@ impl Stepper {
         } else {
             0
         }
+    }
+}
+
+#[cfg(test)]
+mod tests {
+    use super::*;
+    use mt_march::march_c_minus;
+    use mt_plan::Algorithm;
+    use mt_port::{PlainBoard, Shape};
+    use std::test::Fail;
+
+    /// Makes all accesses that are left, and answers whether one before the last did not answer More, and the last answer.
+    fn step_all<P: Port>(port: &mut P, stepper: &mut Stepper, left: u32) -> (bool, Progress)
+        requires ready { IsReady (P.state port.old) stepper.old left }
+        requires left { stepper.old.made + left ≤ sequence_hold stepper.old.job stepper.old.slice.n }
+    {
+        let mut early = false;
+        let mut last = Progress::More;
+        let mut left = left;
+        while left > 0 {
+            early |= last != Progress::More;
+            last = stepper.step(port);
+            left -= 1;
+        }
+        (early, last)
+    }
+
+    #[test]
+    #[tactic(auto, unfolding(mt_port::specs::Board::powered_up))]
+    fn march_c_minus_access_by_access(rt: HostRuntime) -> Result<(), Fail> {
+        let shape = Shape {
+            width: Width::W8,
+            ram: 10,
+            flash: 0,
+        };
+        let mut board = PlainBoard::new(rt.alloc(), shape, 0).ok().ok_or("memory")?;
+        let job = Job {
+            alg: Algorithm::March(march_c_minus()),
+            policy: Policy::NonDestructive,
+            background: 0,
+            fill: 0,
+        };
+        let hold = hold_of(&job.alg, job.policy, 2);
+        let mut stepper = Stepper::new(job, Slice { first: 8, n: 2 });
+        board.hold();
+        let (early, last) = step_all(&mut board, &mut stepper, hold);
+        assert!(rt; !early);
+        assert_eq!(rt; last, Progress::Ended(Verdict::Pass));
+        assert_eq!(rt; stepper.made(), 24);
+        assert_eq!(rt; board.made(), 24);
+        Ok(())
     }
 }
