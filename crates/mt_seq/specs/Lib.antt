@@ -3,4 +3,3 @@ pub mod Tape
 pub mod Makes
 pub mod Compare
 pub mod Laws
-pub mod Attempts
