@@ -5,3 +5,4 @@ pub mod Counts
 pub mod Standing
 pub mod SteadyPlans
 pub mod KeptCells
+pub mod Lines

@@ -1,24 +1,29 @@
 -- The step at a place of an algorithm, and the place after it.
-use Rattle.std.proofs.Common.{ℕ, ◌≡◌, ◌+◌, ◌-◌, ◌*◌, ◌/◌, ◌%◌, ◌<◌, ◌≤◌, zero, suc, length, length-append, add-one, refl, arith, ap, sym, ◌∙◌, subst, Some, None, inl, inr}
+use Rattle.std.proofs.Common.{ℕ, ◌≡◌, ◌+◌, ◌-◌, ◌*◌, ◌/◌, ◌%◌, ◌<◌, ◌≤◌, zero, suc, length, length-append, add-one, get_or, refl, arith, ap, sym, ◌∙◌, subst, Some, None, inl, inr}
 use Rattle.std.specs.Prelude.{slice_get}
 use Rattle.std.proofs.lemmas.Bool.{cases_eq, cases_lt}
 use Rattle.std.proofs.lemmas.List.{length-map}
-use Rattle.std.proofs.lemmas.Option.{slice_get_past}
+use Rattle.std.proofs.lemmas.Option.{slice_get_past, slice_get-get_or}
 use Rattle.std.proofs.Math.Nat.{div-lt_iff_lt-mul}
+use Rattle.mt_fault.specs.Faulty.{is_odd}
 use Rattle.mt_march.specs.Accepted.{operations}
 use Rattle.mt_march.specs.declared.march.March.{March}
 use Rattle.mt_march.specs.declared.march.Element.{Element}
 use Rattle.mt_plan.specs.declared.algorithm.Algorithm.{Algorithm}
 use Rattle.mt_plan.specs.declared.algorithm.Algorithm.TheVariants.{Checkerboard, March as Marches, WalkPath, Galpat, TransparentGalpat}
+use Rattle.mt_plan.specs.declared.algorithm.Act.TheVariants.{ReadPlain}
 use Rattle.mt_plan.specs.declared.algorithm.Step.{Step}
 use Rattle.mt_plan.specs.declared.place.Place.{Place}
 use Rattle.mt_plan.specs.declared.cursor.Steps.{Steps}
+use Rattle.mt_plan.specs.declared.line.Line.{Line}
+use Rattle.mt_plan.specs.declared.line.Line.TheVariants.{OnCell}
 use Rattle.mt_plan.specs.Lists.{cells, step, act_of, walk_base, galpat_base}
 use Rattle.mt_plan.specs.Plan.{IsAccepted, steps_of, step_count}
-use Rattle.mt_plan.specs.Rows.{part_count, row_count, row_of, rows_of, parts_of, element_row, cell_at, is_second}
-use Rattle.mt_plan.specs.Cursor.{IsPlace, Stands, index_of}
-use Rattle.mt_plan.proofs.Items.{in_piece, within_piece, one_more, length-one_more, length-even}
+use Rattle.mt_plan.specs.Rows.{part_count, row_count, row_of, rows_of, parts_of, element_row, cell_at, is_second, quarter_act}
+use Rattle.mt_plan.specs.Cursor.{IsPlace, IsRow, Stands, index_of, line_of, line_steps, IsElementOf, IsLineOn}
+use Rattle.mt_plan.proofs.Items.{in_piece, within_piece, one_more, length-one_more, length-even, length-cells}
 use Rattle.mt_plan.proofs.Bases.{first_len, walk_len, galpat_len}
+use Rattle.mt_plan.proofs.Lines.{line_is, row_some, row_on, on_cell, on_cell_len}
 use Rattle.mt_plan.proofs.Whole.{whole}
 use Rattle.mt_plan.proofs.Counts.{length-steps, steps_few}
 
@@ -52,10 +57,13 @@ next_part algorithm n part = length-one_more (λ p. rows_of algorithm n p (row_c
 
 -- ---- the place of an index
 
-pub checkerboard_index : (n part row : ℕ) → row < n → index_of Checkerboard n (record { part = part; row = row; at = 0 }) ≡ part * n + row
-checkerboard_index n part row h =
-    let rows : (p k : ℕ) → length (rows_of Checkerboard n p k) ≡ k = λ p k. omega (arith, length-even (row_of Checkerboard n p) 1 k (λ m g. refl)) in
-    omega (arith, rows part row, length-even (λ p. rows_of Checkerboard n p n) n part (λ m g. rows m n))
+pub length-quarter : (n part row : ℕ) → length (row_of Checkerboard n part row) ≡ n
+length-quarter n part row = length-map (cells n) (λ (j : ℕ). step j (quarter_act part (is_odd j))) ∙ length-cells n
+
+pub checkerboard_index : (n part at : ℕ) → index_of Checkerboard n (record { part = part; row = 0; at = at }) ≡ part * n + at
+checkerboard_index n part at =
+    let one : (p : ℕ) → length (rows_of Checkerboard n p 1) ≡ n = λ p. omega (arith, length-even (row_of Checkerboard n p) n 1 (λ m g. length-quarter n p m)) in
+    omega (arith, length-even (λ p. rows_of Checkerboard n p 1) n part (λ m g. one m))
 
 pub march_rows : (march : March) (n part k : ℕ) (e : Element) → slice_get march.elements.items part ≡ Some e → length (rows_of (Marches march) n part k) ≡ k * length e.ops.items
 march_rows march n part k e is =
@@ -180,91 +188,139 @@ some_row WalkPath n h = omega arith
 some_row Galpat n h = omega arith
 some_row TransparentGalpat n h = omega arith
 
--- the first place
-pub stands_first : (algorithm : Algorithm) (n len : ℕ) → IsAccepted algorithm → 1 ≤ n → n ≤ 64 → 0 < part_count algorithm → 0 < row_count algorithm n → len ≡ length (row_of algorithm n 0 0) → 1 ≤ len
-    → Stands algorithm (record { n = n; made = 0; place = record { part = 0; row = 0; at = 0 }; row_end = len })
-stands_first algorithm n len accepted some small parts rows is long = record {
+-- the row at a place, where its line has so many steps
+at_row : (algorithm : Algorithm) (n part row len : ℕ) (line : Line) (e : Element) → IsElementOf algorithm part e → line ≡ line_of algorithm n part row
+    → len ≡ length (line_steps e n line) → len ≡ length (row_of algorithm n part row)
+at_row algorithm n part row len line e is line_is' long =
+    long ∙ ap (λ (l : Line). length (line_steps e n l)) line_is' ∙ ap length (line_is algorithm n part row e is)
+
+-- the first row of a part
+pub begins_part : (algorithm : Algorithm) (n made rows part len : ℕ) (line : Line) (e : Element) → IsAccepted algorithm → 1 ≤ n → n ≤ 64 → rows ≡ row_count algorithm n
+    → made ≡ length (parts_of algorithm n part) → part < part_count algorithm → IsElementOf algorithm part e → line ≡ line_of algorithm n part 0 → len ≡ length (line_steps e n line)
+    → Stands algorithm (record { n = n; made = made; place = record { part = part; row = 0; at = 0 }; rows = rows; row_end = len; line = line; element = e })
+begins_part algorithm n made rows part len line e accepted some small count index inside is at long = record {
   accepted = accepted;
   some = some;
   small = small;
-  index = refl;
+  rows = count;
+  index = omega arith;
   parts = omega arith;
-  place = λ h. record { part = h; row = omega arith; at = omega arith };
-  row_end = λ h. is;
-  end = λ e. absurd (omega arith);
+  row = λ h. record {
+    place = record { part = inside; row = some_row algorithm n some; at = row_some algorithm n part 0 e accepted some inside is };
+    line = at;
+    element = is;
+    row_end = at_row algorithm n part 0 len line e is at long;
+  };
+  end = λ h. absurd (omega arith);
+}
+
+-- behind the last part
+pub begins_none : (algorithm : Algorithm) (s : Steps) (made part : ℕ) → IsAccepted algorithm → 1 ≤ s.n → s.n ≤ 64 → s.rows ≡ row_count algorithm s.n
+    → made ≡ length (parts_of algorithm s.n part) → part ≡ part_count algorithm
+    → Stands algorithm (record { n = s.n; made = made; place = record { part = part; row = 0; at = 0 }; rows = s.rows; row_end = s.row_end; line = s.line; element = s.element })
+begins_none algorithm s made part accepted some small count index is = record {
+  accepted = accepted;
+  some = some;
+  small = small;
+  rows = count;
+  index = omega arith;
+  parts = omega arith;
+  row = λ h. absurd (omega arith);
+  end = λ h. (refl, refl);
 }
 
 pub made_few : (algorithm : Algorithm) (s : Steps) → Stands algorithm s → s.place.part < part_count algorithm → s.made < 16640
-made_few algorithm s is h = omega (arith, is.index, few_made algorithm s.n s.place is.accepted is.small (is.place h))
+made_few algorithm s is h = omega (arith, is.index, few_made algorithm s.n s.place is.accepted is.small (is.row h).place)
 
 -- one place on in the row
 pub stands_on : (algorithm : Algorithm) (s : Steps) → Stands algorithm s → s.place.part < part_count algorithm → s.place.at + 1 < s.row_end
-    → Stands algorithm (record { n = s.n; made = s.made + 1; place = record { part = s.place.part; row = s.place.row; at = s.place.at + 1 }; row_end = s.row_end })
+    → Stands algorithm (record { n = s.n; made = s.made + 1; place = record { part = s.place.part; row = s.place.row; at = s.place.at + 1 }; rows = s.rows; row_end = s.row_end; line = s.line; element = s.element })
 stands_on algorithm s is h more =
-    let at : IsPlace algorithm s.n s.place = is.place h in
+    let row : IsRow algorithm s = is.row h in
     record {
       accepted = is.accepted;
       some = is.some;
       small = is.small;
+      rows = is.rows;
       index = omega (arith, is.index);
       parts = is.parts;
-      place = λ g. record { part = g; row = at.row; at = omega (arith, is.row_end g) };
-      row_end = is.row_end;
+      row = λ g. record {
+        place = record { part = g; row = row.place.row; at = omega (arith, row.row_end) };
+        line = row.line;
+        element = row.element;
+        row_end = row.row_end;
+      };
       end = λ e. absurd (omega arith);
     }
 
 -- in the next row
-stands_row : (algorithm : Algorithm) (s : Steps) (len : ℕ) → Stands algorithm s → s.place.part < part_count algorithm → s.row_end ≤ s.place.at + 1 → s.place.row + 1 < row_count algorithm s.n
-    → (s.place.part < part_count algorithm → len ≡ length (row_of algorithm s.n s.place.part (s.place.row + 1))) → (s.place.part < part_count algorithm → 1 ≤ len)
-    → Stands algorithm (record { n = s.n; made = s.made + 1; place = record { part = s.place.part; row = s.place.row + 1; at = 0 }; row_end = len })
-stands_row algorithm s len is h done more ends long =
-    let at : IsPlace algorithm s.n s.place = is.place h in
+pub stands_row : (algorithm : Algorithm) (s : Steps) (line : Line) (len : ℕ) → Stands algorithm s → s.place.part < part_count algorithm → s.row_end ≤ s.place.at + 1 → s.place.row + 1 < s.rows
+    → line ≡ line_of algorithm s.n s.place.part (s.place.row + 1) → len ≡ length (line_steps s.element s.n line)
+    → Stands algorithm (record { n = s.n; made = s.made + 1; place = record { part = s.place.part; row = s.place.row + 1; at = 0 }; rows = s.rows; row_end = len; line = line; element = s.element })
+stands_row algorithm s line len is h done more at long =
+    let row : IsRow algorithm s = is.row h in
     record {
       accepted = is.accepted;
       some = is.some;
       small = is.small;
-      index = omega (arith, is.index, is.row_end h, at.at, next_row algorithm s.n s.place.part s.place.row);
+      rows = is.rows;
+      index = omega (arith, is.index, row.row_end, row.place.at, next_row algorithm s.n s.place.part s.place.row);
       parts = is.parts;
-      place = λ g. record { part = g; row = more; at = omega (arith, ends g, long g) };
-      row_end = ends;
+      row = λ g. record {
+        place = record { part = g; row = omega (arith, is.rows); at = row_some algorithm s.n s.place.part (s.place.row + 1) s.element is.accepted is.some g row.element };
+        line = at;
+        element = row.element;
+        row_end = at_row algorithm s.n s.place.part (s.place.row + 1) len line s.element row.element at long;
+      };
       end = λ e. absurd (omega arith);
     }
 
--- in the next part, or behind the last one
-stands_part : (algorithm : Algorithm) (s : Steps) (len : ℕ) → Stands algorithm s → s.place.part < part_count algorithm → s.row_end ≤ s.place.at + 1 → row_count algorithm s.n ≤ s.place.row + 1 → 0 < row_count algorithm s.n
-    → (s.place.part + 1 < part_count algorithm → len ≡ length (row_of algorithm s.n (s.place.part + 1) 0)) → (s.place.part + 1 < part_count algorithm → 1 ≤ len)
-    → Stands algorithm (record { n = s.n; made = s.made + 1; place = record { part = s.place.part + 1; row = 0; at = 0 }; row_end = len })
-stands_part algorithm s len is h done last rows ends long =
-    let at : IsPlace algorithm s.n s.place = is.place h in
-    let count : row_count algorithm s.n ≡ s.place.row + 1 = omega (arith, at.row) in
-    let all : length (rows_of algorithm s.n s.place.part (row_count algorithm s.n)) ≡ length (rows_of algorithm s.n s.place.part s.place.row) + length (row_of algorithm s.n s.place.part s.place.row) = ap (λ (k : ℕ). length (rows_of algorithm s.n s.place.part k)) count ∙ next_row algorithm s.n s.place.part s.place.row in
-    record {
-      accepted = is.accepted;
-      some = is.some;
-      small = is.small;
-      index = omega (arith, is.index, is.row_end h, at.at, all, next_part algorithm s.n s.place.part);
-      parts = omega arith;
-      place = λ g. record { part = g; row = omega arith; at = omega (arith, ends g, long g) };
-      row_end = ends;
-      end = λ e. (refl, refl);
-    }
+-- on the next cell of an element
+pub stands_cell : (algorithm : Algorithm) (s : Steps) (was cell : ℕ) → Stands algorithm s → s.place.part < part_count algorithm → s.row_end ≤ s.place.at + 1 → s.place.row + 1 < s.rows
+    → s.line ≡ OnCell was → cell ≡ cell_at s.element.order s.n (s.place.row + 1)
+    → Stands algorithm (record { n = s.n; made = s.made + 1; place = record { part = s.place.part; row = s.place.row + 1; at = 0 }; rows = s.rows; row_end = s.row_end; line = OnCell cell; element = s.element })
+stands_cell algorithm s was cell is h done more on at =
+    let row : IsRow algorithm s = is.row h in
+    let line : OnCell cell ≡ line_of algorithm s.n s.place.part (s.place.row + 1) =
+    ap OnCell at ∙ sym (on_cell algorithm s.n s.place.part s.place.row (s.place.row + 1) s.element was row.element (sym row.line ∙ on)) in
+    stands_row algorithm s (OnCell cell) s.row_end is h done more line
+    (row.row_end ∙ on_cell_len algorithm s.n s.place.part s.place.row s.element was cell row.element (sym row.line ∙ on))
 
-pub stands_after : (algorithm : Algorithm) (s : Steps) (place : Place) (len : ℕ) → Stands algorithm s → s.place.part < part_count algorithm → s.row_end ≤ s.place.at + 1
-    → (s.place.row + 1 < row_count algorithm s.n → place ≡ record { part = s.place.part; row = s.place.row + 1; at = 0 })
-    → (row_count algorithm s.n ≤ s.place.row + 1 → place ≡ record { part = s.place.part + 1; row = 0; at = 0 })
-    → 0 < row_count algorithm s.n
-    → (place.part < part_count algorithm → len ≡ length (row_of algorithm s.n place.part place.row)) → (place.part < part_count algorithm → 1 ≤ len)
-    → Stands algorithm (record { n = s.n; made = s.made + 1; place = place; row_end = len })
-stands_after algorithm s place len is h done same over rows ends long =
-    let made : Place → Type 0 = λ (p : Place). (p.part < part_count algorithm → len ≡ length (row_of algorithm s.n p.part p.row)) → (p.part < part_count algorithm → 1 ≤ len) → Stands algorithm (record { n = s.n; made = s.made + 1; place = p; row_end = len }) in
-    elim (cases_lt (s.place.row + 1) (row_count algorithm s.n)) [
-      | inl lt ↦ subst made (sym (same lt)) (stands_row algorithm s len is h done lt) ends long
-      | inr le ↦ subst made (sym (over le)) (stands_part algorithm s len is h done le rows) ends long
-    ]
+-- how many steps are before the next part
+pub before_part : (algorithm : Algorithm) (s : Steps) → Stands algorithm s → s.place.part < part_count algorithm → s.row_end ≤ s.place.at + 1 → s.rows ≤ s.place.row + 1
+    → s.made + 1 ≡ length (parts_of algorithm s.n (s.place.part + 1))
+before_part algorithm s is h done last =
+    let row : IsRow algorithm s = is.row h in
+    let count : row_count algorithm s.n ≡ s.place.row + 1 = omega (arith, row.place.row, is.rows) in
+    let all : length (rows_of algorithm s.n s.place.part (row_count algorithm s.n)) ≡ length (rows_of algorithm s.n s.place.part s.place.row) + length (row_of algorithm s.n s.place.part s.place.row) = ap (λ (k : ℕ). length (rows_of algorithm s.n s.place.part k)) count ∙ next_row algorithm s.n s.place.part s.place.row in
+    omega (arith, is.index, row.row_end, row.place.at, all, next_part algorithm s.n s.place.part)
 
 -- what a cursor hands out
-pub stands_step : (algorithm : Algorithm) (s : Steps) (t : Step) → Stands algorithm s → s.place.part < part_count algorithm → slice_get (row_of algorithm s.n s.place.part s.place.row) s.place.at ≡ Some t → slice_get (steps_of algorithm s.n) s.made ≡ Some t
-stands_step algorithm s t is h at = subst (λ (i : ℕ). slice_get (steps_of algorithm s.n) i ≡ Some t) (sym is.index) (step_at_place algorithm s.n s.place t (is.place h) at)
+pub stands_step : (algorithm : Algorithm) (s : Steps) (t : Step) → Stands algorithm s → s.place.part < part_count algorithm → slice_get (line_steps s.element s.n s.line) s.place.at ≡ Some t → slice_get (steps_of algorithm s.n) s.made ≡ Some t
+stands_step algorithm s t is h at =
+    let row : IsRow algorithm s = is.row h in
+    let here : line_steps s.element s.n s.line ≡ row_of algorithm s.n s.place.part s.place.row = ap (line_steps s.element s.n) row.line ∙ line_is algorithm s.n s.place.part s.place.row s.element row.element in
+    subst (λ (i : ℕ). slice_get (steps_of algorithm s.n) i ≡ Some t) (sym is.index) (step_at_place algorithm s.n s.place t row.place (rw here at at))
 
-pub stands_end : (algorithm : Algorithm) (s : Steps) → Stands algorithm s → s.place.part ≡ part_count algorithm → slice_get (steps_of algorithm s.n) s.made ≡ None
-stands_end algorithm s is e = subst (λ (i : ℕ). slice_get (steps_of algorithm s.n) i ≡ None) (sym is.index) (none_at_end algorithm s.n s.place e (is.end e).0 (is.end e).1)
+-- a step that is handed out is one of its line
+pub stands_at : (algorithm : Algorithm) (s : Steps) → Stands algorithm s → s.place.part < part_count algorithm → s.place.at < length (line_steps s.element s.n s.line)
+stands_at algorithm s is h =
+    let row : IsRow algorithm s = is.row h in
+    omega (arith, row.place.at, ap (λ (l : Line). length (line_steps s.element s.n l)) row.line, ap length (line_is algorithm s.n s.place.part s.place.row s.element row.element))
+
+pub stands_line : (algorithm : Algorithm) (s : Steps) → Stands algorithm s → s.place.part < part_count algorithm → IsLineOn s.n s.line
+stands_line algorithm s is h =
+    let row : IsRow algorithm s = is.row h in
+    subst (IsLineOn s.n) (sym row.line) (row_on algorithm s.n s.place.part s.place.row s.element row.place.row row.element)
+
+-- where a step is left the cursor is inside a part
+pub stands_inside : (algorithm : Algorithm) (s : Steps) → Stands algorithm s → s.made < length (steps_of algorithm s.n) → s.place.part < part_count algorithm
+stands_inside algorithm s is left =
+    elim (cases_lt s.place.part (part_count algorithm)) [
+      | inl lt ↦ lt
+      | inr le ↦ (let e : s.place.part ≡ part_count algorithm = omega (arith, is.parts) in
+          let none : slice_get (steps_of algorithm s.n) s.made ≡ None = subst (λ (i : ℕ). slice_get (steps_of algorithm s.n) i ≡ None) (sym is.index) (none_at_end algorithm s.n s.place e (is.end e).0 (is.end e).1) in
+          let d : Step = record { cell = 0; act = ReadPlain } in
+          let some : slice_get (steps_of algorithm s.n) s.made ≡ Some (get_or (steps_of algorithm s.n) s.made d) = slice_get-get_or (steps_of algorithm s.n) s.made d left in
+          cc)
+    ]

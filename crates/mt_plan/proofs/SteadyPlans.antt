@@ -16,7 +16,8 @@ use Rattle.mt_march.specs.Accepted.{wrote, reads_agree, operations}
 use Rattle.mt_plan.specs.declared.algorithm.Algorithm.TheVariants.{Checkerboard, March as Marches, WalkPath, Galpat, TransparentGalpat}
 use Rattle.mt_plan.specs.declared.algorithm.Act.{Act}
 use Rattle.mt_plan.specs.declared.algorithm.Step.{Step}
-use Rattle.mt_plan.specs.Lists.{act_of, ops_on, in_order, element_on, march_on, cells, step, others, is_odd, write_act, read_act, walk_base, walk_round, walk_on, galpat_base, galpat_round, galpat_on, checkerboard_on}
+use Rattle.mt_fault.specs.Faulty.{is_odd}
+use Rattle.mt_plan.specs.Lists.{act_of, ops_on, in_order, element_on, march_on, cells, step, others, write_act, read_act, walk_base, walk_round, walk_on, galpat_base, galpat_round, galpat_on, checkerboard_on}
 use Rattle.mt_plan.specs.Plan.{steps_of}
 use Rattle.mt_plan.specs.Steady.{steady, IsSteady, IsInside, IsSteadyOn, PlansAreSteady}
 

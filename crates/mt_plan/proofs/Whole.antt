@@ -3,7 +3,7 @@ use Rattle.std.proofs.Common.{ℕ, ◌≡◌, ◌+◌, ◌-◌, ◌≤◌, zero,
 use Rattle.std.specs.Prelude.{slice_get}
 use Rattle.std.specs.List.{flat_map}
 use Rattle.std.proofs.lemmas.List.{reverse-append, take_all}
-use Rattle.std.proofs.lemmas.List.Concat.{flat_map-append, flat_map_single}
+use Rattle.std.proofs.lemmas.List.Concat.{flat_map-append}
 use Rattle.std.proofs.lemmas.List.Folds.{flat_map-map}
 use Rattle.std.proofs.lemmas.Option.{slice_get-get_or}
 use Rattle.std.proofs.Math.Seq.{take-suc}
@@ -13,14 +13,15 @@ use Rattle.mt_march.specs.declared.march.Element.{Element}
 use Rattle.mt_plan.specs.declared.algorithm.Algorithm.{Algorithm}
 use Rattle.mt_plan.specs.declared.algorithm.Algorithm.TheVariants.{Checkerboard, March as Marches, WalkPath, Galpat, TransparentGalpat}
 use Rattle.mt_plan.specs.declared.algorithm.Step.{Step}
-use Rattle.mt_plan.specs.Lists.{cells, step, is_odd, write_act, ops_on, in_order, element_on, march_on, walk_base, galpat_base}
+use Rattle.mt_fault.specs.Faulty.{is_odd}
+use Rattle.mt_plan.specs.Lists.{cells, step, write_act, ops_on, in_order, element_on, march_on, walk_base, galpat_base}
 use Rattle.mt_plan.specs.Plan.{steps_of}
 use Rattle.mt_plan.specs.Rows.{part_count, quarter_act, cell_at, element_row, round_row, rows_of, parts_of}
 use Rattle.mt_plan.proofs.Items.{cells_front, one_more}
 
 -- ---- checkerboard
-quarter : (n part : ℕ) → rows_of Checkerboard n part n ≡ map (λ j. step j (quarter_act part (is_odd j))) (cells n)
-quarter n part = flat_map_single (λ j. step j (quarter_act part (is_odd j))) (cells n)
+quarter : (n part : ℕ) → rows_of Checkerboard n part 1 ≡ map (λ j. step j (quarter_act part (is_odd j))) (cells n)
+quarter n part = append-nil (map (λ j. step j (quarter_act part (is_odd j))) (cells n))
 
 whole_checkerboard : (n : ℕ) → steps_of Checkerboard n ≡ parts_of Checkerboard n 4
 unfolding steps_of

@@ -1,10 +1,18 @@
 -- What a cursor over the steps of an algorithm stands at.
-use Rattle.std.specs.Prelude.{◌≡◌, ℕ, ◌+◌, ◌<◌, ◌≤◌, length}
+use Rattle.std.specs.Prelude.{◌≡◌, ℕ, zero, suc, ◌+◌, ◌<◌, ◌≤◌, length, Bool, true, false, if◌then◌else◌, List, map, Option, Some, None, slice_get}
+use Rattle.mt_fault.specs.Faulty.{is_odd}
+use Rattle.mt_march.specs.declared.march.Element.{Element}
+use Rattle.mt_plan.specs.declared.algorithm.Act.TheVariants.{ReadPlain}
 use Rattle.mt_plan.specs.declared.algorithm.Algorithm.{Algorithm}
-use Rattle.mt_plan.specs.declared.place.Place.{Place}
+use Rattle.mt_plan.specs.declared.algorithm.Algorithm.TheVariants.{Checkerboard, March as Marches, WalkPath, Galpat, TransparentGalpat}
+use Rattle.mt_plan.specs.declared.algorithm.Step.{Step}
 use Rattle.mt_plan.specs.declared.cursor.Steps.{Steps}
+use Rattle.mt_plan.specs.declared.line.Line.{Line}
+use Rattle.mt_plan.specs.declared.line.Line.TheVariants.{EachCell, OnCell, WalkBase, GalpatBase}
+use Rattle.mt_plan.specs.declared.place.Place.{Place}
+use Rattle.mt_plan.specs.Lists.{cells, step, ops_on, write_act, walk_base, galpat_base}
 use Rattle.mt_plan.specs.Plan.{IsAccepted}
-use Rattle.mt_plan.specs.Rows.{part_count, row_count, row_of, rows_of, parts_of}
+use Rattle.mt_plan.specs.Rows.{part_count, row_count, row_of, rows_of, parts_of, quarter_act, cell_at, is_second}
 
 -- the index of the step at a place
 abbrev pub index_of : Algorithm → ℕ → Place → ℕ
@@ -17,15 +25,62 @@ pub record IsPlace (algorithm : Algorithm) (n : ℕ) (place : Place) : Type 0 wh
   pub row : place.row < row_count algorithm n
   pub at : place.at < length (row_of algorithm n place.part place.row)
 
+-- the steps that a line stands for, where an element is under way
+abbrev pub line_steps : Element → ℕ → Line → List Step
+line_steps element n (EachCell even odd) = map (λ j. step j (if is_odd j then odd else even)) (cells n)
+line_steps element n (OnCell cell) = ops_on element.ops.items cell
+line_steps element n (WalkBase flipped base) = walk_base flipped (cells n) base
+line_steps element n (GalpatBase flipped base) = galpat_base flipped (cells n) base
+
+-- the line of a march's row
+abbrev pub element_line : Option Element → ℕ → ℕ → Line
+element_line None n row = EachCell ReadPlain ReadPlain
+element_line (Some e) n row = OnCell (cell_at e.order n row)
+
+-- the line of a round's row: the writes of all cells, and then each base
+abbrev pub round_line : Bool → (ℕ → Line) → ℕ → Line
+round_line flipped base zero = EachCell (write_act flipped) (write_act flipped)
+round_line flipped base (suc i) = base i
+
+-- the line of a row
+abbrev pub line_of : Algorithm → ℕ → ℕ → ℕ → Line
+line_of Checkerboard n part row = EachCell (quarter_act part false) (quarter_act part true)
+line_of (Marches march) n part row = element_line (slice_get march.elements.items part) n row
+line_of WalkPath n part row = round_line (is_second part) (WalkBase (is_second part)) row
+line_of Galpat n part row = round_line (is_second part) (GalpatBase (is_second part)) row
+line_of TransparentGalpat n part row = round_line (is_second part) (GalpatBase (is_second part)) row
+
+-- a line stays on n cells
+abbrev pub IsLineOn : ℕ → Line → Type 0
+IsLineOn n (EachCell even odd) = Unit {0}
+IsLineOn n (OnCell cell) = cell < n
+IsLineOn n (WalkBase flipped base) = base < n
+IsLineOn n (GalpatBase flipped base) = base < n
+
+-- an element is that of a march's part
+abbrev pub IsElementOf : Algorithm → ℕ → Element → Type 0
+IsElementOf Checkerboard part element = Unit {0}
+IsElementOf (Marches march) part element = slice_get march.elements.items part ≡ Some element
+IsElementOf WalkPath part element = Unit {0}
+IsElementOf Galpat part element = Unit {0}
+IsElementOf TransparentGalpat part element = Unit {0}
+
+-- The row at a place is worked out: its line, the element that it is of, and how many steps it has.
+pub record IsRow (algorithm : Algorithm) (steps : Steps) : Type 0 where
+  pub place : IsPlace algorithm steps.n steps.place
+  pub line : steps.line ≡ line_of algorithm steps.n steps.place.part steps.place.row
+  pub element : IsElementOf algorithm steps.place.part steps.element
+  pub row_end : steps.row_end ≡ length (row_of algorithm steps.n steps.place.part steps.place.row)
+
 -- A cursor stands before the step with the index that it tells, or after the last one.
 pub record Stands (algorithm : Algorithm) (steps : Steps) : Type 0 where
   pub accepted : IsAccepted algorithm
   pub some : 1 ≤ steps.n
   pub small : steps.n ≤ 64
+  pub rows : steps.rows ≡ row_count algorithm steps.n
   pub index : steps.made ≡ index_of algorithm steps.n steps.place
   pub parts : steps.place.part ≤ part_count algorithm
-  pub place : steps.place.part < part_count algorithm → IsPlace algorithm steps.n steps.place
-  pub row_end : steps.place.part < part_count algorithm → steps.row_end ≡ length (row_of algorithm steps.n steps.place.part steps.place.row)
+  pub row : steps.place.part < part_count algorithm → IsRow algorithm steps
   pub end : steps.place.part ≡ part_count algorithm → (steps.place.row ≡ 0) × (steps.place.at ≡ 0)
 
 -- A cursor over the steps of the algorithm: `next` hands out the step with the index `made_by`.

@@ -1,6 +1,7 @@
 -- The algorithms as functions of a list of cells, which are given in rising order.
-use Rattle.std.specs.Prelude.{ℕ, ◌%◌, suc, zero, Bool, true, false, ◌==◌, not, List, [], ◌∷◌, ◌++◌, map, reverse}
+use Rattle.std.specs.Prelude.{ℕ, suc, zero, Bool, true, false, ◌==◌, not, List, [], ◌∷◌, ◌++◌, map, reverse}
 use Rattle.std.specs.List.{flat_map, filter}
+use Rattle.mt_fault.specs.Faulty.{is_odd}
 use Rattle.mt_march.specs.declared.march.Order.{Order}
 use Rattle.mt_march.specs.declared.march.Order.TheVariants.{Up, Down, Either}
 use Rattle.mt_march.specs.declared.march.Op.{Op}
@@ -66,9 +67,6 @@ element_on js e = flat_map (ops_on e.ops.items) (in_order e.order js)
 -- a march: element by element
 abbrev pub march_on : List ℕ → List Element → List Step
 march_on js march = flat_map (element_on js) march
-
-abbrev pub is_odd : ℕ → Bool
-is_odd j = j % 2 == 1
 
 -- checkerboard: the complement stands in odd cells at first, and then in even ones
 abbrev pub checkerboard_on : List ℕ → List Step

@@ -1,5 +1,5 @@
 -- An algorithm cut into parts, and each part into rows, so that a step has a place.
-use Rattle.std.specs.Prelude.{ℕ, zero, suc, ◌+◌, ◌-◌, ◌==◌, Bool, not, if◌then◌else◌, List, [], ◌∷◌, map, length, Option, Some, None, slice_get}
+use Rattle.std.specs.Prelude.{ℕ, zero, suc, ◌+◌, ◌-◌, ◌==◌, Bool, not, if◌then◌else◌, List, [], map, length, Option, Some, None, slice_get}
 use Rattle.std.specs.List.{flat_map}
 use Rattle.mt_march.specs.declared.march.Order.{Order}
 use Rattle.mt_march.specs.declared.march.Order.TheVariants.{Up, Down, Either}
@@ -8,7 +8,8 @@ use Rattle.mt_plan.specs.declared.algorithm.Algorithm.{Algorithm}
 use Rattle.mt_plan.specs.declared.algorithm.Algorithm.TheVariants.{Checkerboard, March as Marches, WalkPath, Galpat, TransparentGalpat}
 use Rattle.mt_plan.specs.declared.algorithm.Act.{Act}
 use Rattle.mt_plan.specs.declared.algorithm.Step.{Step}
-use Rattle.mt_plan.specs.Lists.{cells, step, ops_on, is_odd, write_act, read_act, walk_base, galpat_base}
+use Rattle.mt_fault.specs.Faulty.{is_odd}
+use Rattle.mt_plan.specs.Lists.{cells, step, ops_on, write_act, read_act, walk_base, galpat_base}
 
 -- how many parts: the quarters of checkerboard, the elements of a march, the rounds of the others
 abbrev pub part_count : Algorithm → ℕ
@@ -18,9 +19,9 @@ part_count WalkPath = 2
 part_count Galpat = 2
 part_count TransparentGalpat = 2
 
--- how many rows of a part: one a cell, and in a round one more before them
+-- how many rows of a part: one of a quarter, one a cell of an element, and in a round one more before those of the bases
 abbrev pub row_count : Algorithm → ℕ → ℕ
-row_count Checkerboard n = n
+row_count Checkerboard n = 1
 row_count (Marches march) n = n
 row_count WalkPath n = n + 1
 row_count Galpat n = n + 1
@@ -52,7 +53,7 @@ is_second part = part == 1
 
 -- the steps of a row
 abbrev pub row_of : Algorithm → ℕ → ℕ → ℕ → List Step
-row_of Checkerboard n part row = step row (quarter_act part (is_odd row)) ∷ []
+row_of Checkerboard n part row = map (λ j. step j (quarter_act part (is_odd j))) (cells n)
 row_of (Marches march) n part row = element_row (slice_get march.elements.items part) n row
 row_of WalkPath n part row = round_row (is_second part) (walk_base (is_second part) (cells n)) n row
 row_of Galpat n part row = round_row (is_second part) (galpat_base (is_second part) (cells n)) n row

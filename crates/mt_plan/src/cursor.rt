@@ -1,22 +1,27 @@
 //! The steps of an algorithm, one after another.
 
-ghost use Rattle.std.specs.Prelude.{◌≡◌, ◌≤◌, ◌<◌, ◌+◌, slice_get, IfSome, is_some, if◌then◌else◌, length};
+ghost use Rattle.std.specs.Prelude.{◌≡◌, ◌≤◌, ◌<◌, ◌+◌, slice_get, Some, length};
 ghost use Rattle.mt_plan.specs.Plan.{IsAccepted, steps_of};
 ghost use Rattle.mt_plan.specs.Cursor.{IsCursor, Stands, cells_of, made_by};
-ghost use Rattle.mt_plan.specs.Rows.{part_count, row_count, row_of};
+ghost use Rattle.mt_plan.specs.Rows.{part_count};
 
 use crate::algorithm::{Algorithm, Step};
+use crate::line::Line;
 use crate::place::Place;
-use crate::rows::{part_count, row_count, row_len, step_in};
+use crate::rows::{cell_of, element_at, line_at, part_count, row_count};
+use mt_march::Element;
 
 /// A cursor over the steps of an algorithm on the cells of a slice.
-/// It hands out a step in constant time, and keeps no list.
-#[derive(Clone, Copy, Debug)]
+/// What the steps of a row need is worked out when the row begins, so that a step is one look at the row and a count.
+#[derive(Drop)]
 pub struct Steps {
     n: u32,
     made: u32,
     place: Place,
+    rows: u32,
     row_end: u32,
+    line: Line,
+    element: Element,
 }
 
 impl Steps {
@@ -29,6 +34,8 @@ impl Steps {
         ensures cells { cells_of result ≡ n }
         ensures made { made_by result ≡ 0 }
     {
+        let element = element_at(algorithm, 0);
+        let line = line_at(algorithm, n, 0, 0, &element);
         Steps {
             n,
             made: 0,
@@ -37,7 +44,10 @@ impl Steps {
                 row: 0,
                 at: 0,
             },
-            row_end: row_len(algorithm, n, 0, 0),
+            rows: row_count(algorithm, n),
+            row_end: line.len(&element, n),
+            line,
+            element,
         }
     }
 
@@ -48,99 +58,113 @@ impl Steps {
         self.made
     }
 
-    /// The next step, or None after the last one.
-    pub fn next(&mut self, algorithm: &Algorithm) -> Option<Step>
-        requires { IsCursor algorithm.now self.old }
-        ensures step { result ≡ slice_get (steps_of algorithm.now (cells_of self.old)) (made_by self.old) }
-        ensures inside { IfSome result (λ step. step.cell < cells_of self.old) }
+    /// The next step, of which one has to be left. The cursor stays before it.
+    #[inline(always)]
+    pub fn peek(&self, _algorithm: &Algorithm) -> Step
+        requires cursor { IsCursor _algorithm.now self.now }
+        requires left { made_by self.now < length (steps_of _algorithm.now (cells_of self.now)) }
+        ensures step { slice_get (steps_of _algorithm.now (cells_of self.now)) (made_by self.now) ≡ Some result }
+        ensures inside { result.cell < cells_of self.now }
+    {
+        self.line.step(&self.element, self.n, self.place.at)
+    }
+
+    /// Goes one step on. One has to be left.
+    #[inline(always)]
+    pub fn advance(&mut self, algorithm: &Algorithm)
+        requires cursor { IsCursor algorithm.now self.old }
+        requires left { made_by self.old < length (steps_of algorithm.now (cells_of self.old)) }
         ensures cursor { IsCursor algorithm.now self.new }
         ensures cells { cells_of self.new ≡ cells_of self.old }
-        ensures made { made_by self.new ≡ (if is_some result then made_by self.old + 1 else made_by self.old) }
+        ensures made { made_by self.new ≡ made_by self.old + 1 }
     {
-        if self.place.part == part_count(algorithm) {
-            return None;
-        }
-        let step = step_in(algorithm, self.n, self.place);
-        *self = self.after(algorithm);
-        Some(step)
+        self.go_on(algorithm);
     }
 
-    /// The cursor one step on.
-    fn after(self, algorithm: &Algorithm) -> Steps
-        requires cursor { Stands algorithm.now self }
-        requires part { self.place.part < part_count algorithm.now }
-        ensures cursor { Stands algorithm.now result }
-        ensures cells { result.n ≡ self.n }
-        ensures made { result.made ≡ self.made + 1 }
+    /// The next step, of which one has to be left, and goes on.
+    #[inline(always)]
+    pub fn next(&mut self, algorithm: &Algorithm) -> Step
+        requires cursor { IsCursor algorithm.now self.old }
+        requires left { made_by self.old < length (steps_of algorithm.now (cells_of self.old)) }
+        ensures step { slice_get (steps_of algorithm.now (cells_of self.old)) (made_by self.old) ≡ Some result }
+        ensures inside { result.cell < cells_of self.old }
+        ensures cursor { IsCursor algorithm.now self.new }
+        ensures cells { cells_of self.new ≡ cells_of self.old }
+        ensures made { made_by self.new ≡ made_by self.old + 1 }
     {
-        let Steps {
-            n,
-            made,
-            place,
-            row_end,
-        } = self;
-        let Place { part, row, at } = place;
-        let made = made + 1;
-        if at + 1 < row_end {
-            return Steps {
-                n,
-                made,
-                place: Place {
-                    part,
-                    row,
-                    at: at + 1,
-                },
-                row_end,
-            };
-        }
-        let place = row_after(algorithm, n, part, row);
-        Steps {
-            n,
-            made,
-            place,
-            row_end: row_end_at(algorithm, n, place),
+        let step = self.peek(algorithm);
+        self.advance(algorithm);
+        step
+    }
+
+    /// Goes one step on.
+    #[inline(always)]
+    fn go_on(&mut self, algorithm: &Algorithm)
+        requires cursor { Stands algorithm.now self.old }
+        requires part { self.old.place.part < part_count algorithm.now }
+        ensures cursor { Stands algorithm.now self.new }
+        ensures cells { self.new.n ≡ self.old.n }
+        ensures made { self.new.made ≡ self.old.made + 1 }
+    {
+        if self.place.at + 1 < self.row_end {
+            self.made += 1;
+            self.place.at += 1;
+        } else if self.place.row + 1 < self.rows {
+            self.begin_row(algorithm);
+        } else {
+            self.begin_part(algorithm);
         }
     }
-}
 
-/// The beginning of the row after one.
-fn row_after(algorithm: &Algorithm, n: u32, part: u32, row: u32) -> Place
-    requires some { 1 ≤ n }
-    requires small { n ≤ 64 }
-    requires accepted { IsAccepted algorithm.now }
-    requires part { part < part_count algorithm.now }
-    requires row { row < row_count algorithm.now n }
-    ensures same { row + 1 < row_count algorithm.now n → result ≡ record { part = part; row = row + 1; at = 0 } }
-    ensures over { row_count algorithm.now n ≤ row + 1 → result ≡ record { part = part + 1; row = 0; at = 0 } }
-    ensures inside { result.row < row_count algorithm.now n }
-{
-    if row + 1 < row_count(algorithm, n) {
-        Place {
+    /// Goes on to the next row of the part.
+    #[inline(always)]
+    fn begin_row(&mut self, algorithm: &Algorithm)
+        requires cursor { Stands algorithm.now self.old }
+        requires part { self.old.place.part < part_count algorithm.now }
+        requires done { self.old.row_end ≤ self.old.place.at + 1 }
+        requires more { self.old.place.row + 1 < self.old.rows }
+        ensures cursor { Stands algorithm.now self.new }
+        ensures cells { self.new.n ≡ self.old.n }
+        ensures made { self.new.made ≡ self.old.made + 1 }
+    {
+        let Place { part, row, .. } = self.place;
+        let row = row + 1;
+        self.made += 1;
+        self.place = Place { part, row, at: 0 };
+        match self.line {
+            Line::OnCell { .. } => {
+                self.line = Line::OnCell {
+                    cell: cell_of(self.element.order, self.n, row),
+                };
+            }
+            Line::EachCell { .. } | Line::WalkBase { .. } | Line::GalpatBase { .. } => {
+                self.line = line_at(algorithm, self.n, part, row, &self.element);
+                self.row_end = self.line.len(&self.element, self.n);
+            }
+        }
+    }
+
+    /// Goes on to the first row of the next part, or behind the last part.
+    fn begin_part(&mut self, algorithm: &Algorithm)
+        requires cursor { Stands algorithm.now self.old }
+        requires part { self.old.place.part < part_count algorithm.now }
+        requires done { self.old.row_end ≤ self.old.place.at + 1 }
+        requires last { self.old.rows ≤ self.old.place.row + 1 }
+        ensures cursor { Stands algorithm.now self.new }
+        ensures cells { self.new.n ≡ self.old.n }
+        ensures made { self.new.made ≡ self.old.made + 1 }
+    {
+        let part = self.place.part + 1;
+        self.made += 1;
+        self.place = Place {
             part,
-            row: row + 1,
-            at: 0,
-        }
-    } else {
-        Place {
-            part: part + 1,
             row: 0,
             at: 0,
+        };
+        if part < part_count(algorithm) {
+            self.element = element_at(algorithm, part);
+            self.line = line_at(algorithm, self.n, part, 0, &self.element);
+            self.row_end = self.line.len(&self.element, self.n);
         }
-    }
-}
-
-/// How many steps the row of a place has, and 0 behind the last part.
-fn row_end_at(algorithm: &Algorithm, n: u32, place: Place) -> u32
-    requires accepted { IsAccepted algorithm.now }
-    requires some { 1 ≤ n }
-    requires small { n ≤ 64 }
-    requires row { place.row < row_count algorithm.now n }
-    ensures len { place.part < part_count algorithm.now → result ≡ length (row_of algorithm.now n place.part place.row) }
-    ensures some { place.part < part_count algorithm.now → 1 ≤ result }
-{
-    if place.part < part_count(algorithm) {
-        row_len(algorithm, n, place.part, place.row)
-    } else {
-        0
     }
 }

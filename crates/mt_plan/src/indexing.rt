@@ -7,7 +7,7 @@ ghost use Rattle.mt_plan.specs.Cursor.{IsPlace, index_of};
 
 use crate::algorithm::{Algorithm, Step};
 use crate::place::Place;
-use crate::rows::step_in;
+use crate::rows::{element_at, line_at};
 use mt_march::March;
 
 /// The place of an index in checkerboard.
@@ -19,8 +19,8 @@ fn checkerboard_place(n: u32, i: u32) -> Place
 {
     Place {
         part: i / n,
-        row: i % n,
-        at: 0,
+        row: 0,
+        at: i % n,
     }
 }
 
@@ -104,5 +104,7 @@ pub fn step_at(algorithm: &Algorithm, n: u32, i: u32) -> Step
     ensures step { slice_get (steps_of algorithm.now n) i ≡ Some result }
     ensures inside { result.cell < n }
 {
-    step_in(algorithm, n, place_of(algorithm, n, i))
+    let Place { part, row, at } = place_of(algorithm, n, i);
+    let element = element_at(algorithm, part);
+    line_at(algorithm, n, part, row, &element).step(&element, n, at)
 }

@@ -6,7 +6,7 @@ mod counting;
 mod cursor;
 mod indexing;
 mod laws;
-mod marching;
+mod line;
 mod place;
 mod rounds;
 mod rows;

@@ -1,12 +1,12 @@
-//! The steps of checkerboard, and of the rounds of walk path and Galpat.
+//! The steps at a base of the walk path and of Galpat.
 
-ghost use Rattle.std.specs.Prelude.{◌≡◌, ◌≤◌, ◌<◌, ◌*◌, ◌+◌, length, slice_get, Some};
-ghost use Rattle.mt_plan.specs.Lists.{cells, is_odd, read_act, write_act, walk_base, galpat_base};
-ghost use Rattle.mt_plan.specs.Rows.{quarter_act, round_row};
+ghost use Rattle.std.specs.Prelude.{◌≡◌, ◌≤◌, ◌<◌, ◌*◌, ◌+◌, slice_get, Some};
+ghost use Rattle.mt_plan.specs.Lists.{cells, read_act, write_act, walk_base, galpat_base};
 
 use crate::algorithm::{Act, Step};
 
-fn writing(flipped: bool) -> Act
+#[inline(always)]
+pub fn writing(flipped: bool) -> Act
     ensures { result ≡ write_act flipped }
 {
     if flipped {
@@ -16,7 +16,8 @@ fn writing(flipped: bool) -> Act
     }
 }
 
-fn reading(flipped: bool) -> Act
+#[inline(always)]
+pub fn reading(flipped: bool) -> Act
     ensures { result ≡ read_act flipped }
 {
     if flipped {
@@ -26,31 +27,8 @@ fn reading(flipped: bool) -> Act
     }
 }
 
-/// What a quarter of checkerboard does with an even or an odd cell.
-fn quarter_act(quarter: u32, odd: bool) -> Act
-    ensures { result ≡ quarter_act quarter odd }
-{
-    match quarter {
-        0 => writing(odd),
-        1 => reading(odd),
-        2 => writing(!odd),
-        _ => reading(!odd),
-    }
-}
-
-/// The step of checkerboard on a cell.
-pub fn checkerboard_step(quarter: u32, cell: u32) -> Step
-    requires { cell < 64 }
-    ensures step { result.act ≡ quarter_act quarter (is_odd cell) }
-    ensures cell { result.cell ≡ cell }
-{
-    Step {
-        cell: cell as u8,
-        act: quarter_act(quarter, cell % 2 == 1),
-    }
-}
-
 /// The cell with an index among those other than the base.
+#[inline(always)]
 fn other_cell(base: u32, index: u32) -> u8
     requires { index < 64 }
     ensures before { index < base → result ≡ index }
@@ -64,7 +42,8 @@ fn other_cell(base: u32, index: u32) -> u8
 }
 
 /// A step of the walk path at a base.
-fn walk_base_step(flipped: bool, n: u32, base: u32, at: u32) -> Step
+#[inline(always)]
+pub fn walk_base_step(flipped: bool, n: u32, base: u32, at: u32) -> Step
     requires small { n ≤ 64 }
     requires base { base < n }
     requires at { at < n + 2 }
@@ -96,7 +75,8 @@ fn walk_base_step(flipped: bool, n: u32, base: u32, at: u32) -> Step
 }
 
 /// A step of Galpat at a base.
-fn galpat_base_step(flipped: bool, n: u32, base: u32, at: u32) -> Step
+#[inline(always)]
+pub fn galpat_base_step(flipped: bool, n: u32, base: u32, at: u32) -> Step
     requires small { n ≤ 64 }
     requires base { base < n }
     requires at { at < 2 * n + 1 }
@@ -124,41 +104,5 @@ fn galpat_base_step(flipped: bool, n: u32, base: u32, at: u32) -> Step
             cell: other_cell(base, at / 2 - 1),
             act: reading(flipped),
         }
-    }
-}
-
-/// A step of a round of the walk path.
-pub fn walk_step(flipped: bool, n: u32, row: u32, at: u32) -> Step
-    requires small { n ≤ 64 }
-    requires row { row < n + 1 }
-    requires at { at < length (round_row flipped (walk_base flipped (cells n)) n row) }
-    ensures step { slice_get (round_row flipped (walk_base flipped (cells n)) n row) at ≡ Some result }
-    ensures inside { result.cell < n }
-{
-    if row == 0 {
-        Step {
-            cell: at as u8,
-            act: writing(flipped),
-        }
-    } else {
-        walk_base_step(flipped, n, row - 1, at)
-    }
-}
-
-/// A step of a round of Galpat.
-pub fn galpat_step(flipped: bool, n: u32, row: u32, at: u32) -> Step
-    requires small { n ≤ 64 }
-    requires row { row < n + 1 }
-    requires at { at < length (round_row flipped (galpat_base flipped (cells n)) n row) }
-    ensures step { slice_get (round_row flipped (galpat_base flipped (cells n)) n row) at ≡ Some result }
-    ensures inside { result.cell < n }
-{
-    if row == 0 {
-        Step {
-            cell: at as u8,
-            act: writing(flipped),
-        }
-    } else {
-        galpat_base_step(flipped, n, row - 1, at)
     }
 }

@@ -1,5 +1,6 @@
-ghost use Rattle.std.specs.Prelude.{◌≤◌};
+ghost use Rattle.std.specs.Prelude.{◌≡◌, ◌≤◌};
 ghost use Rattle.mt_plan.specs.Plan.{IsAccepted};
+ghost use Rattle.mt_plan.specs.Cursor.{IsCursor, cells_of};
 
 use super::*;
 
@@ -65,14 +66,42 @@ fn steps_by_hand(rt: HostRuntime) {
     assert_eq!(rt; hold_of(&Algorithm::WalkPath, Policy::Destructive, 2), 22);
 }
 
+/// The next step of a cursor, where one is left.
+fn next_of(cursor: &mut Steps, algorithm: &Algorithm, n: u32) -> Option<Step>
+    requires cursor { IsCursor algorithm.now cursor.old }
+    requires cells { cells_of cursor.old ≡ n }
+    requires accepted { IsAccepted algorithm.now }
+    requires small { n ≤ 64 }
+    ensures cursor { IsCursor algorithm.now cursor.new }
+    ensures cells { cells_of cursor.new ≡ n }
+{
+    if cursor.made() < steps(algorithm, n) {
+        Some(cursor.next(algorithm))
+    } else {
+        None
+    }
+}
+
 #[test]
 fn cursor_by_hand(rt: HostRuntime) {
     let algorithm = Algorithm::Checkerboard;
     let mut cursor = Steps::new(&algorithm, 1);
-    assert_eq!(rt; cursor.next(&algorithm), step(0, Act::WritePlain));
-    assert_eq!(rt; cursor.next(&algorithm), step(0, Act::ReadPlain));
-    assert_eq!(rt; cursor.next(&algorithm), step(0, Act::WriteFlipped));
-    assert_eq!(rt; cursor.next(&algorithm), step(0, Act::ReadFlipped));
-    assert_eq!(rt; cursor.next(&algorithm), None);
+    assert_eq!(rt;
+        next_of(&mut cursor, &algorithm, 1),
+        step(0, Act::WritePlain)
+    );
+    assert_eq!(rt;
+        next_of(&mut cursor, &algorithm, 1),
+        step(0, Act::ReadPlain)
+    );
+    assert_eq!(rt;
+        next_of(&mut cursor, &algorithm, 1),
+        step(0, Act::WriteFlipped)
+    );
+    assert_eq!(rt;
+        next_of(&mut cursor, &algorithm, 1),
+        step(0, Act::ReadFlipped)
+    );
+    assert_eq!(rt; next_of(&mut cursor, &algorithm, 1), None);
     assert_eq!(rt; cursor.made(), 4);
 }

@@ -1,6 +1,9 @@
 pub mod Comparison
-pub mod Elements
 pub mod Lengths
 pub mod Makes
 pub mod Sound
-pub mod Whole
+pub mod Moves
+pub mod Underway
+pub mod Runs
+pub mod Moments
+pub mod Attempts

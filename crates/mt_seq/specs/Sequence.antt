@@ -56,11 +56,13 @@ testing width job slice saved steps = map (item_of width slice.first (back_of jo
 abbrev pub ending : Job → Slice → List ℕ → List Item
 ending job slice saved = map (λ cell. Store (slice.first + cell) (last_of job.policy job.fill saved cell)) (cells slice.n)
 
+-- all accesses of one sequence on words of a width, with the steps of its algorithm, where the saving reads answered `saved`
+abbrev pub listed : Width → Job → Slice → List ℕ → List Step → List Item
+listed width job slice saved steps = saving job.policy slice ++ testing width job slice saved steps ++ ending job slice saved
+
 -- all accesses of one sequence on a board, with the steps of its algorithm
 unfoldable pub accesses_of : Board → Job → Slice → List Step → List Item
-accesses_of b job slice steps =
-    let saved = saved_words job.policy b.fault b.words slice in
-    saving job.policy slice ++ testing b.shape.width job slice saved steps ++ ending job slice saved
+accesses_of b job slice steps = listed b.shape.width job slice (saved_words job.policy b.fault b.words slice) steps
 
 abbrev pub verdict_of : Bool → Verdict
 verdict_of true = Pass

@@ -1,14 +1,17 @@
+use Rattle.std.proofs.Common.{refl}
 use Rattle.mt_plan.specs.Cursor.{IsCursor}
-use Rattle.mt_plan.proofs.Standing.{stands_first, some_part, some_row}
+use Rattle.mt_plan.proofs.Standing.{begins_part, some_part, some_row}
 use Rattle.mt_plan.proofs.cursor.Steps.new.Goals as goal
 
-pub row_len-requires-clause-part : goal.row_len-requires-clause-part
-row_len-requires-clause-part c = some_part c.args.algorithm.now c.requires.accepted
+pub element_at-element-requires-clause-part : goal.element_at-element-requires-clause-part
+element_at-element-requires-clause-part c = some_part c.args.algorithm.now c.requires.accepted
 
-pub row_len-requires-clause-row : goal.row_len-requires-clause-row
-row_len-requires-clause-row c = some_row c.args.algorithm.now c.args.n c.requires.some
+pub line_at-line-requires-clause-row : goal.line_at-line-requires-clause-row
+line_at-line-requires-clause-row c = some_row c.args.algorithm.now c.args.n c.requires.some
 
 pub returns-clause-cursor : goal.returns-clause-cursor
 unfolding IsCursor
 returns-clause-cursor c =
-    stands_first c.args.algorithm.now c.args.n c.row_len.result c.requires.accepted c.requires.some c.requires.small (some_part c.args.algorithm.now c.requires.accepted) (some_row c.args.algorithm.now c.args.n c.requires.some) c.row_len.ensures.len c.row_len.ensures.some
+    begins_part c.args.algorithm.now c.args.n 0 c.row_count.result 0 c.len.result c.line_at-line.result c.element_at-element.result
+    c.requires.accepted c.requires.some c.requires.small c.row_count.ensures.count refl (some_part c.args.algorithm.now c.requires.accepted)
+    c.element_at-element.ensures c.line_at-line.ensures.line c.len.ensures.len
