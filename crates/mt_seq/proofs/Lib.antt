@@ -7,3 +7,4 @@ pub mod Underway
 pub mod Runs
 pub mod Moments
 pub mod Attempts
+pub mod AttemptLaws
