@@ -2,3 +2,4 @@ pub mod Moves
 pub mod Sets
 pub mod Settings
 pub mod Walks
+pub mod Marks

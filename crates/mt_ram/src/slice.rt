@@ -3,7 +3,7 @@
 ghost use Rattle.std.specs.Prelude.{◌≡◌, ◌<◌, ◌≤◌, ◌+◌, ◌*◌, ◌^◌, false, true, is_some, length};
 ghost use Rattle.mt_port.specs.Board.{Logs, is_urgent_due};
 ghost use Rattle.mt_seq.specs.Sequence.{sequence_hold};
-ghost use Rattle.mt_seq.specs.Attempts.{framed};
+ghost use Rattle.mt_seq.specs.Stepping.{job_of as framed};
 ghost use Rattle.mt_window.specs.Slices.{attempted};
 ghost use Rattle.mt_blocks.specs.Slices.{IsValid, next_in};
 ghost use Rattle.mt_ram.specs.State.{set_of, spans_in, piece_in};
