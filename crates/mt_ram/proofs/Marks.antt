@@ -1,5 +1,5 @@
 -- What the mark stops, and when attempts are dropped in time.
-use Rattle.std.proofs.Common.{ℕ, zero, suc, ◌≡◌, Bool, true, false, cond, List, [], ◌∷◌, Option, Some, None, refl, sym, ap, ◌∙◌, subst, arith}
+use Rattle.std.proofs.Common.{ℕ, zero, suc, ◌≡◌, Bool, true, false, cond, List, [], ◌∷◌, Option, Some, None, refl, sym, ap, ◌∙◌, arith}
 use Rattle.std.specs.Prelude.{is_some}
 use Rattle.mt_plan.specs.declared.algorithm.Policy.{Policy}
 use Rattle.mt_plan.specs.declared.algorithm.Policy.TheVariants.{NonDestructive, Destructive}
@@ -7,7 +7,7 @@ use Rattle.mt_seq.specs.AttemptLaws.{DropsInTime as AttemptsDropInTime}
 use Rattle.mt_seq.specs.declared.sequence.Verdict.{Verdict}
 use Rattle.mt_window.specs.Serving.{Scene, scene}
 use Rattle.mt_window.specs.Slices.{Trail, started, taken_by, next_attempt, scene_behind, after_attempt, tried, slices}
-use Rattle.mt_window.specs.Events.{entered, ran}
+use Rattle.mt_window.specs.Events.{entered}
 use Rattle.mt_window.specs.Rows.{work_in, inside_of}
 use Rattle.mt_window.specs.Waits.{DropsInTime}
 use Rattle.mt_window.specs.Kept.{slices-stopped, slices-keeps}

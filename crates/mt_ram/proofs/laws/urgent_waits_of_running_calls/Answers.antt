@@ -1,5 +1,4 @@
 use Rattle.mt_ram.specs.declared.test_walk.Test.TheVariants as tests
-use Rattle.mt_ram.specs.Event.{of_pass, of_test}
 use Rattle.mt_ram.proofs.Marks.{pass_drops, test_drops}
 use Rattle.mt_ram.proofs.laws.urgent_waits_of_running_calls.Goals as goal
 
