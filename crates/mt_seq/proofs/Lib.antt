@@ -7,4 +7,3 @@ pub mod Underway
 pub mod Runs
 pub mod Moments
 pub mod Attempts
-pub mod AttemptLaws

@@ -5,4 +5,3 @@ pub mod Stepping
 pub mod Compare
 pub mod Attempts
 pub mod Laws
-pub mod AttemptLaws

@@ -3,7 +3,6 @@
 
 mod access;
 mod attempt;
-mod attempt_laws;
 mod compare;
 mod course;
 mod laws;
@@ -13,7 +12,6 @@ mod stepper;
 
 pub use access::Access;
 pub use attempt::{run_slice, try_slice};
-pub use attempt_laws::attempts_end_soon;
 pub use compare::run_compare;
 pub use laws::{caught_faults_fail, comparisons_are_exact, sequences_are_short, sound_memory};
 pub use sequence::{Frame, Job, Slice, Verdict};
