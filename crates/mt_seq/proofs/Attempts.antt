@@ -23,7 +23,7 @@ use Rattle.mt_seq.specs.declared.sequence.Job.{Job}
 use Rattle.mt_seq.specs.Attempts.{backed_out, dropped_at, keeps_words}
 use Rattle.mt_seq.specs.Makes.{Makes, after_all}
 use Rattle.mt_seq.specs.Sequence.{saving, saved_words, ending, last_of, accesses_of, sequence, sequence_hold, IsSoundJob, IsSoundSlice}
-use Rattle.mt_seq.specs.Stepping.{Stepping, begun, job_of, view_of, IsCourse, IsReady, IsUnderway, Runs}
+use Rattle.mt_seq.specs.Stepping.{Stepping, begun, job_of, view_of, IsCourse, IsReady, IsUnderway, RunsOf}
 use Rattle.mt_seq.specs.Tape.{touch_of}
 use Rattle.mt_seq.proofs.Lengths.{length-sequence, length-saving, hold_is}
 use Rattle.mt_seq.proofs.Makes.{Makes-append, Makes-same}
@@ -48,7 +48,7 @@ pub record Made (job : Job) (slice : Slice) (k : ℕ) (b now : Board) (told tape
   pub saved : c.saved.items ≡ take k (saved_words job.policy b.fault b.words slice)
 
 pub made_from : (job : Job) (slice : Slice) (k : ℕ) (c new : Course) (b now : Board) (told tape : Option (List Touch)) → IsSound b → view_of job c ≡ begun job slice
-    → Runs job c b told new now tape → new.made ≡ k → Made job slice k b now told tape new
+    → RunsOf job c b told new now tape → new.made ≡ k → Made job slice k b now told tape new
 made_from job slice k c new b now told tape sound view runs made =
     let under : IsUnderway b told (view_of job new) now tape = runs.under b told sound (subst (λ (s : Stepping). IsUnderway b told s b told) (sym view) (underway_begun b told job slice sound)) in
     let e : new.slice ≡ slice = runs.slice ∙ ap (λ (s : Stepping). s.slice) view in
@@ -63,7 +63,7 @@ made_whole job slice k c b now told tape made all =
     Makes-same (take_all k (sequence b job slice) (omega (arith, hold_length b job slice))) refl made.makes
 
 -- the words that are put back
-restored : (job : Job) (slice : Slice) (saved : List ℕ) → job.policy ≡ NonDestructive → map (λ (cell : ℕ). Store (slice.first + cell) (slice_index saved cell)) (cells slice.n) ≡ ending job slice saved
+pub restored : (job : Job) (slice : Slice) (saved : List ℕ) → job.policy ≡ NonDestructive → map (λ (cell : ℕ). Store (slice.first + cell) (slice_index saved cell)) (cells slice.n) ≡ ending job slice saved
 restored job slice saved keeps = sym (ap (λ (p : Policy). map (λ (cell : ℕ). Store (slice.first + cell) (last_of p job.fill saved cell)) (cells slice.n)) keeps)
 
 -- a verdict of accesses is what it says
@@ -125,7 +125,7 @@ held_part a b job slice k e = ap (λ (x : Board). backed_out x job slice k) e
 -- ---- a course at its beginning
 
 pub begin_ready : (b : Board) (alg : Algorithm) (frame : Frame) (slice : Slice) (c : Course) (count : ℕ) → b.held ≡ true → IsSoundJob b.shape.width (job_of alg frame) → IsSoundSlice b.shape.ram slice
-    → view_of (job_of alg frame) c ≡ begun (job_of alg frame) slice → b.count + count < 2 ^ 32 → IsReady b frame c count
+    → view_of (job_of alg frame) c ≡ begun (job_of alg frame) slice → b.count + count < 2 ^ 32 → IsReady b (view_of (job_of alg frame) c) count
 begin_ready b alg frame slice c count held job sound view room =
     let same : c.slice ≡ slice = ap (λ (s : Stepping). s.slice) view in
     record {

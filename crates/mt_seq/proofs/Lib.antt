@@ -7,3 +7,5 @@ pub mod Underway
 pub mod Runs
 pub mod Moments
 pub mod Attempts
+pub mod Endings
+pub mod Urgent

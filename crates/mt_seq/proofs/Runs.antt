@@ -11,16 +11,15 @@ use Rattle.mt_port.specs.declared.board.Shape.{Shape}
 use Rattle.mt_port.specs.Board.{Board, IsSound}
 use Rattle.mt_seq.specs.declared.course.Course.{Course}
 use Rattle.mt_seq.specs.declared.sequence.Slice.{Slice}
-use Rattle.mt_seq.specs.declared.sequence.Frame.{Frame}
 use Rattle.mt_seq.specs.declared.sequence.Job.{Job}
 use Rattle.mt_seq.specs.Makes.{Makes}
 use Rattle.mt_seq.specs.Sequence.{saving}
-use Rattle.mt_seq.specs.Stepping.{Stepping, view_of, stepped, saved_after, IsCourse, IsReady, IsStepOf, IsLookAnswer, Runs}
+use Rattle.mt_seq.specs.Stepping.{Stepping, view_of, stepped, saved_after, IsCourse, IsReady, IsStep, IsStepOf, IsLookAnswer, Runs}
 use Rattle.mt_seq.proofs.Underway.{underway_more}
 
-pub runs_none : (job : Job) (c : Course) (a : Board) (told : Option (List Touch)) → IsCourse job c → Runs job c a told c a told
-runs_none job c a told is = record {
-  course = is;
+pub runs_none : (s : Stepping) (a : Board) (told : Option (List Touch)) → Runs s a told s a told
+runs_none s a told = record {
+  job = refl;
   slice = refl;
   shape = refl;
   held = refl;
@@ -35,31 +34,31 @@ fit_more b width saved (Look addr) answer same is fit = All-push (Fits width) sa
 fit_more b width saved (Check addr word) answer same is fit = fit
 fit_more b width saved (Store addr word) answer same is fit = fit
 
-pub runs_more : (job : Job) (old c new : Course) (a b d : Board) (ta tb td : Option (List Touch)) → Runs job old a ta c b tb → IsStepOf job c b tb new d td → IsCourse job new → Runs job old a ta new d td
-runs_more job old c new a b d ta tb td runs step is =
-    let made : new.made ≡ c.made + 1 = ap (λ (s : Stepping). s.made) step.known in
+pub runs_more : (old s t : Stepping) (a b d : Board) (ta tb td : Option (List Touch)) → Runs old a ta s b tb → IsStep s b tb t d td → Runs old a ta t d td
+runs_more old s t a b d ta tb td runs step =
+    let made : t.made ≡ s.made + 1 = ap (λ (x : Stepping). x.made) step.known in
     record {
-      course = is;
-      slice = ap (λ (s : Stepping). s.slice) step.known ∙ runs.slice;
+      job = ap (λ (x : Stepping). x.job) step.known ∙ runs.job;
+      slice = ap (λ (x : Stepping). x.slice) step.known ∙ runs.slice;
       shape = step.makes.shape ∙ runs.shape;
       held = step.makes.held ∙ runs.held;
       ahead = omega (arith, runs.ahead);
       count = omega (arith, runs.count, step.makes.count);
-      fit = λ fit. subst (All (Fits a.shape.width)) (sym (ap (λ (s : Stepping). s.saved) step.known))
-          (fit_more b a.shape.width c.saved.items step.item step.answer (ap (λ (s : Shape). s.width) runs.shape) step.look (runs.fit fit));
-      under = λ begun t sound under. underway_more begun t (view_of job c) b tb (view_of job new) d td sound (runs.under begun t sound under) step;
+      fit = λ fit. subst (All (Fits a.shape.width)) (sym (ap (λ (x : Stepping). x.saved) step.known))
+          (fit_more b a.shape.width s.saved step.item step.answer (ap (λ (x : Shape). x.width) runs.shape) step.look (runs.fit fit));
+      under = λ begun told sound under. underway_more begun told s b tb t d td sound (runs.under begun told sound under) step;
     }
 
-pub runs_on : (job : Job) (old c new : Course) (a b d : Board) (ta tb td : Option (List Touch)) → Runs job old a ta c b tb → Runs job c b tb new d td → Runs job old a ta new d td
-runs_on job old c new a b d ta tb td first second = record {
-  course = second.course;
+pub runs_on : (old s t : Stepping) (a b d : Board) (ta tb td : Option (List Touch)) → Runs old a ta s b tb → Runs s b tb t d td → Runs old a ta t d td
+runs_on old s t a b d ta tb td first second = record {
+  job = second.job ∙ first.job;
   slice = second.slice ∙ first.slice;
   shape = second.shape ∙ first.shape;
   held = second.held ∙ first.held;
   ahead = omega (arith, first.ahead, second.ahead);
   count = omega (arith, first.count, second.count);
-  fit = λ fit. subst (λ (s : Shape). All (Fits s.width) new.saved.items) first.shape (second.fit (subst (λ (s : Shape). All (Fits s.width) c.saved.items) (sym first.shape) (first.fit fit)));
-  under = λ begun t sound under. second.under begun t sound (first.under begun t sound under);
+  fit = λ fit. subst (λ (x : Shape). All (Fits x.width) t.saved) first.shape (second.fit (subst (λ (x : Shape). All (Fits x.width) s.saved) (sym first.shape) (first.fit fit)));
+  under = λ begun told sound under. second.under begun told sound (first.under begun told sound under);
 }
 
 -- the phases of a course stay where they are
@@ -71,16 +70,28 @@ same_to job old new is now slice =
     let steps : length (steps_of job.alg new.slice.n) ≡ length (steps_of job.alg old.slice.n) = ap (λ (s : Slice). length (steps_of job.alg s.n)) slice in
     omega (arith, now.to, is.to, same_from job old new is now slice)
 
--- what is left of what a course may make
-pub ready_after : (job : Job) (old c : Course) (a b : Board) (ta tb : Option (List Touch)) (frame : Frame) (count more : ℕ) → Runs job old a ta c b tb → IsReady a frame old count → c.made + more ≤ old.made + count
-    → IsReady b frame c more
-ready_after job old c a b ta tb frame count more runs ready within =
-    let slice : c.slice.first + c.slice.n ≡ old.slice.first + old.slice.n = ap (λ (s : Slice). s.first + s.n) runs.slice in
+-- what is left of what may be made
+pub ready_after : (old s : Stepping) (a b : Board) (ta tb : Option (List Touch)) (count more : ℕ) → Runs old a ta s b tb → IsReady a old count → s.made + more ≤ old.made + count → IsReady b s more
+ready_after old s a b ta tb count more runs ready within =
+    let slice : s.slice.first + s.slice.n ≡ old.slice.first + old.slice.n = ap (λ (x : Slice). x.first + x.n) runs.slice in
     record {
       held = runs.held ∙ ready.held;
-      inside = omega (arith, slice, ready.inside, ap (λ (s : Shape). s.ram) runs.shape);
-      background = subst (λ (s : Shape). Fits s.width frame.background) (sym runs.shape) ready.background;
-      fill = subst (λ (s : Shape). Fits s.width frame.fill) (sym runs.shape) ready.fill;
-      fit = subst (λ (s : Shape). All (Fits s.width) c.saved.items) (sym runs.shape) (runs.fit ready.fit);
+      inside = omega (arith, slice, ready.inside, ap (λ (x : Shape). x.ram) runs.shape);
+      background = subst (λ (x : Shape). Fits x.width s.job.background) (sym runs.shape) (subst (λ (j : Job). Fits a.shape.width j.background) (sym runs.job) ready.background);
+      fill = subst (λ (x : Shape). Fits x.width s.job.fill) (sym runs.shape) (subst (λ (j : Job). Fits a.shape.width j.fill) (sym runs.job) ready.fill);
+      fit = subst (λ (x : Shape). All (Fits x.width) s.saved) (sym runs.shape) (runs.fit ready.fit);
       room = omega (arith, runs.count, ready.room);
     }
+
+-- after one step
+pub ready_next : (s t : Stepping) (a b : Board) (ta tb : Option (List Touch)) → IsStep s a ta t b tb → (k : ℕ) → IsReady a s (k + 1) → IsReady b t k
+ready_next s t a b ta tb step k ready =
+    let made : t.made ≡ s.made + 1 = ap (λ (x : Stepping). x.made) step.known in
+    ready_after s t a b ta tb (k + 1) k (runs_more s s t a a b ta ta tb (runs_none s a ta) step) ready (omega arith)
+
+-- a stepper after one step, where its job is put together anew
+pub ready_step : (s : Stepping) (job again : Job) (c d : Course) (a b : Board) (ta tb : Option (List Touch)) → view_of job c ≡ s → job ≡ again → IsStepOf again c a ta d b tb
+    → (k : ℕ) → IsReady a s (k + 1) → IsReady b (view_of job d) k
+ready_step s job again c d a b ta tb view same step k ready =
+    let here : IsStepOf job c a ta d b tb = subst (λ (j : Job). IsStepOf j c a ta d b tb) (sym same) step in
+    ready_next (view_of job c) (view_of job d) a b ta tb here k (subst (λ (x : Stepping). IsReady a x (k + 1)) (sym view) ready)

@@ -1,16 +1,16 @@
 -- Sequences on sound memory, and the join with coverage.
-use Rattle.std.proofs.Common.{ℕ, zero, suc, ◌+◌, ◌-◌, ◌<◌, ◌≤◌, ◌≡◌, ◌≢◌, ◌==◌, ◌⊎◌, inl, inr, Bool, true, false, cond, if◌then◌else◌, List, [], ◌∷◌, ◌++◌, map, length, get_or, refl, ap, sym, ◌∙◌, arith, append-nil, Option, Some, None}
+use Rattle.std.proofs.Common.{ℕ, zero, suc, ◌+◌, ◌-◌, ◌<◌, ◌≤◌, ◌≡◌, ◌≢◌, ◌==◌, ◌⊎◌, inl, inr, Bool, true, false, cond, if◌then◌else◌, List, [], ◌∷◌, ◌++◌, map, length, get_or, refl, ap, sym, ◌∙◌, arith, append-nil, take, Option, Some, None}
 use Rattle.std.specs.Prelude.{All, nat_le, nat_lt}
 use Rattle.std.specs.List.{range_with_len}
 use mathlib.Core.Bool.{◌&&◌}
 use Rattle.std.proofs.lemmas.Bool.{eq-eqb, ne_eqb, cases_eq, cases_lt, lt-ltb, le-ltb, le-leb, lt-leb}
 use Rattle.std.proofs.lemmas.List.{map-append}
-use Rattle.std.proofs.lemmas.List.Elements.{All-tail, All-map, All-append, All-cons, All-nil}
+use Rattle.std.proofs.lemmas.List.Elements.{All-tail, All-map, All-append, All-cons, All-nil, All-take}
 use Rattle.std.proofs.lemmas.List.{length-map}
 use Rattle.std.proofs.Math.ListN.{get_or-append}
 use Rattle.std.proofs.Math.Seq.{get_or-append_seam}
 use Rattle.mt_fault.proofs.Steps.{plain_none}
-use Rattle.mt_seq.proofs.Lengths.{length-cells}
+use Rattle.mt_seq.proofs.Lengths.{length-cells, length-saving}
 use Rattle.mt_word.specs.declared.Width.{Width}
 use Rattle.mt_word.specs.Word.{complement_of}
 use Rattle.mt_fault.specs.declared.fault.Fault.{Fault}
@@ -23,7 +23,7 @@ use Rattle.mt_plan.specs.Lists.{cells}
 use Rattle.mt_march.specs.Accepted.{wrote as may_expect}
 use Rattle.mt_plan.specs.Steady.{steady}
 use Rattle.mt_plan.proofs.SteadyPlans.{steady_plans}
-use Rattle.mt_plan.specs.Plan.{steps_of}
+use Rattle.mt_plan.specs.Plan.{steps_of, IsAccepted}
 use Rattle.mt_port.specs.Board.{Board}
 use Rattle.mt_seq.specs.declared.sequence.Slice.{Slice}
 use Rattle.mt_seq.specs.declared.sequence.Job.{Job}
@@ -32,7 +32,11 @@ use Rattle.mt_plan.specs.declared.algorithm.Policy.TheVariants.{NonDestructive, 
 use Rattle.mt_fault.specs.Items.{Item, Look, Check, Store, place, access_of, history, agrees, passes}
 use Rattle.mt_plan.specs.Accesses.{act_on, item_of}
 use Rattle.mt_seq.specs.Sequence.{back_of, last_of, saving, saved_words, testing, ending, accesses_of, sequence, sequence_verdict, sequence_words, verdict_of}
-use Rattle.mt_seq.specs.Laws.{is_in, left_words, SoundMemoryPasses, SoundMemoryStays, CaughtFaultsFail}
+use Rattle.mt_seq.specs.declared.sequence.Verdict.TheVariants.{Pass}
+use Rattle.mt_seq.specs.Attempts.{attempt, attempt_to, attempt_verdict, attempt_words, backed_out, dropped_at, verdict_to}
+use Rattle.mt_seq.specs.Laws.{is_in, left_words, SoundMemoryPasses, SoundMemoryStays, CaughtFaultsFail, DroppedAttemptsStay, WholeAttemptsPass}
+use Rattle.mt_seq.proofs.Attempts.{dropped}
+use Rattle.mt_seq.proofs.Underway.{IsLook, early_looks}
 use Rattle.mt_fault.proofs.ItemLemmas.{history-cons, history-append, passes-append, both}
 
 -- lists whose items are never checked
@@ -270,6 +274,9 @@ off_testing width job slice saved steps a out in' =
     All-map (Off a) (item_of width slice.first (back_of job saved)) steps
     (λ k d h. λ e. out _ (in' k d h) (sym (place_act width _ _ (get_or steps k d).act) ∙ e))
 
+off_ending : (job : Job) (slice : Slice) (saved : List ℕ) (a : ℕ) → Outside slice a → All (Off a) (ending job slice saved)
+off_ending job slice saved a out = All-map (Off a) (λ (cell : ℕ). Store (slice.first + cell) (last_of job.policy job.fill saved cell)) (cells slice.n) (λ k d h. out _ (cells_below slice.n k d h))
+
 -- what stands at an address after a sequence
 left_in : (width : Width) (first : List ℕ) (job : Job) (slice : Slice) (saved : List ℕ) (front : List Item) (k : ℕ) → k < slice.n
     → plain first (history (front ++ ending job slice saved)) (slice.first + k) ≡ last_of job.policy job.fill saved k
@@ -319,21 +326,26 @@ unchanged : (words : List ℕ) (policy : Policy) (fill : ℕ) (slice : Slice) (a
 unchanged words NonDestructive fill slice a is = refl
 unchanged words Destructive fill slice a is = rw is refl
 
-left_word : (b : Board) (job : Job) (slice : Slice) (steps : List Step) (a : ℕ) → b.fault ≡ None → All (λ (t : Step). t.cell < slice.n) steps
-    → plain b.words (history (accesses_of b job slice steps)) a ≡ left_at b.words job.policy job.fill slice a
+-- no access of a sequence is outside its slice
+off_sequence : (b : Board) (job : Job) (slice : Slice) (steps : List Step) (a : ℕ) → All (λ (t : Step). t.cell < slice.n) steps → Outside slice a → All (Off a) (accesses_of b job slice steps)
 unfolding accesses_of
-left_word b job slice steps a none in' =
+off_sequence b job slice steps a in' out =
     let saved = saved_words job.policy b.fault b.words slice in
-    let front = saving job.policy slice ++ testing b.shape.width job slice saved steps in
+    All-append (Off a) (saving job.policy slice ++ testing b.shape.width job slice saved steps) (ending job slice saved)
+    (All-append (Off a) (saving job.policy slice) (testing b.shape.width job slice saved steps) (off_saving job.policy slice a out) (off_testing b.shape.width job slice saved steps a out in'))
+    (off_ending job slice saved a out)
+
+-- what stands at an address after accesses of the slice, and the writes that end a sequence
+left_word : (b : Board) (job : Job) (slice : Slice) (front : List Item) (a : ℕ) → b.fault ≡ None → (Outside slice a → All (Off a) front)
+    → plain b.words (history (front ++ ending job slice (saved_words job.policy b.fault b.words slice))) a ≡ left_at b.words job.policy job.fill slice a
+left_word b job slice front a none off =
+    let saved = saved_words job.policy b.fault b.words slice in
     elim (places slice a) [
       | inl p ↦ (let e : a ≡ slice.first + (a - slice.first) = omega (arith, p.1) in
           ap (plain b.words (history (front ++ ending job slice saved))) e
           ∙ left_in b.shape.width b.words job slice saved front (a - slice.first) p.2
           ∙ last_saved b.fault b.words job.policy job.fill slice a none p.0 p.1 p.2)
-      | inr q ↦ left_out b.words slice (front ++ ending job slice saved) a
-          (All-append (Off a) front (ending job slice saved)
-          (All-append (Off a) (saving job.policy slice) (testing b.shape.width job slice saved steps) (off_saving job.policy slice a q.1) (off_testing b.shape.width job slice saved steps a q.1 in'))
-          (All-map (Off a) (λ (cell : ℕ). Store (slice.first + cell) (last_of job.policy job.fill saved cell)) (cells slice.n) (λ k d h. q.1 _ (cells_below slice.n k d h))))
+      | inr q ↦ left_out b.words slice (front ++ ending job slice saved) a (All-append (Off a) front (ending job slice saved) (off q.1) (off_ending job slice saved a q.1))
           ∙ unchanged b.words job.policy job.fill slice a q.0
     ]
 
@@ -350,12 +362,73 @@ plain_words : (words : List ℕ) (h : History) → words_after None words h ≡ 
 unfolding words_after stored
 plain_words words h = refl
 
+left_front : (b : Board) (job : Job) (slice : Slice) (front : List Item) → b.fault ≡ None → ((a : ℕ) → Outside slice a → All (Off a) front)
+    → words_after b.fault b.words (history (front ++ ending job slice (saved_words job.policy b.fault b.words slice))) ≡ left_words b.words job.policy slice job.fill
+left_front b job slice front none off =
+    let items : List Item = front ++ ending job slice (saved_words job.policy b.fault b.words slice) in
+    ap (λ (f : Option Fault). words_after f b.words (history items)) none
+    ∙ plain_words b.words (history items)
+    ∙ map-range _ _ (λ a. left_word b job slice front a none (off a)) (range_with_len 0 (length b.words))
+    ∙ left_list b.words job.policy job.fill slice
+
 pub sound_stays : SoundMemoryStays
-unfolding sequence_words sequence
+unfolding sequence_words sequence accesses_of
 sound_stays b job slice none accepted =
     let steps = steps_of job.alg slice.n in
     let in' = (steady_plans job.alg slice.n accepted).inside in
-    ap (λ (f : Option Fault). words_after f b.words (history (accesses_of b job slice steps))) none
-    ∙ plain_words b.words (history (accesses_of b job slice steps))
-    ∙ map-range _ _ (λ a. left_word b job slice steps a none in') (range_with_len 0 (length b.words))
-    ∙ left_list b.words job.policy job.fill slice
+    let saved = saved_words job.policy b.fault b.words slice in
+    left_front b job slice (saving job.policy slice ++ testing b.shape.width job slice saved steps) none
+    (λ a out. All-append (Off a) (saving job.policy slice) (testing b.shape.width job slice saved steps) (off_saving job.policy slice a out) (off_testing b.shape.width job slice saved steps a out in'))
+
+-- ---- attempts on sound memory
+
+plain_looks : (first : List ℕ) (a : ℕ) (items : List Item) (h : History) → All IsLook items → plain first (history items ++ h) a ≡ plain first h a
+unfolding history
+plain_looks first a [] h all = refl
+plain_looks first a (Look b ∷ xs) h all =
+    ap (λ (k : History). plain first k a) (history-cons (Look b) xs h) ∙ plain_looks first a xs (Read b ∷ h) (All-tail IsLook (Look b) xs all)
+plain_looks first a (Check b x ∷ xs) h all = absurd (all 0 (Check b x) (omega arith))
+plain_looks first a (Store b x ∷ xs) h all = absurd (all 0 (Store b x) (omega arith))
+
+looks_stay : (b : Board) (items : List Item) → b.fault ≡ None → All IsLook items → words_after b.fault b.words (history items) ≡ b.words
+looks_stay b items none all =
+    ap (λ (f : Option Fault). words_after f b.words (history items)) none
+    ∙ plain_words b.words (history items)
+    ∙ map-range _ _ (λ a. ap (λ (k : History). plain b.words k a) (sym (append-nil (history items))) ∙ plain_looks b.words a items [] all) (range_with_len 0 (length b.words))
+    ∙ sym (plain_none b.words)
+
+backed_out_stays : (b : Board) (job : Job) (slice : Slice) (i : ℕ) → b.fault ≡ None → IsAccepted job.alg → job.policy ≡ NonDestructive
+    → words_after b.fault b.words (history (backed_out b job slice i)) ≡ b.words
+unfolding sequence accesses_of
+backed_out_stays b job slice i none accepted keeps =
+    let saved = saved_words job.policy b.fault b.words slice in
+    let steps = steps_of job.alg slice.n in
+    let in' = (steady_plans job.alg slice.n accepted).inside in
+    let items : List Item = take i (accesses_of b job slice steps) in
+    elim (cases_lt slice.n i) [
+      | inl many ↦ (let yes' : nat_lt slice.n i ≡ true = lt-ltb _ _ many in
+          ap (λ (t : Bool). words_after b.fault b.words (history (items ++ (if t then ending job slice saved else [])))) yes'
+          ∙ left_front b job slice items none (λ a out. All-take (Off a) i (accesses_of b job slice steps) (off_sequence b job slice steps a in' out))
+          ∙ ap (λ (p : Policy). left_words b.words p slice job.fill) keeps)
+      | inr few ↦ (let no' : nat_lt slice.n i ≡ false = le-ltb _ _ few in
+          let short : i ≤ length (saving job.policy slice) = omega (arith, ap (λ (p : Policy). length (saving p slice)) keeps, length-saving slice) in
+          ap (λ (t : Bool). words_after b.fault b.words (history (items ++ (if t then ending job slice saved else [])))) no'
+          ∙ ap (λ (l : List Item). words_after b.fault b.words (history l)) (append-nil items)
+          ∙ looks_stay b items none (early_looks b.shape.width job slice saved steps i short))
+    ]
+
+pub dropped_stays : DroppedAttemptsStay
+unfolding attempt_verdict attempt_words attempt
+dropped_stays may b job slice none accepted verdict = by_drop (dropped_at may b job slice) refl verdict
+  where
+    by_drop : (o : Option ℕ) → dropped_at may b job slice ≡ o → verdict_to b job slice o ≡ None → words_after b.fault b.words (history (attempt_to b job slice o)) ≡ b.words
+    by_drop None e v = cc
+    by_drop (Some i) e v = backed_out_stays b job slice i none accepted (dropped may b job slice i e).keeps
+
+pub whole_attempts_pass : WholeAttemptsPass
+unfolding attempt_verdict attempt_words attempt sequence_words
+whole_attempts_pass may b job slice verdict none accepted is = by_drop (dropped_at may b job slice) is
+  where
+    by_drop : (o : Option ℕ) → verdict_to b job slice o ≡ Some verdict → (verdict ≡ Pass) × (words_after b.fault b.words (history (attempt_to b job slice o)) ≡ left_words b.words job.policy slice job.fill)
+    by_drop None v = (let same : sequence_verdict b job slice ≡ verdict = cc in sym same ∙ sound_passes b job slice none accepted, sound_stays b job slice none accepted)
+    by_drop (Some i) v = cc

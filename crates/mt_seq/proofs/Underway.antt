@@ -57,7 +57,7 @@ All-at P xs i x all at = subst P (get_or_from_slice_get xs i x x at) (all i x (s
 
 -- ---- saving reads leave the words
 
-abbrev IsLook : Item → Type 0
+abbrev pub IsLook : Item → Type 0
 IsLook (Look addr) = Unit {0}
 IsLook (Check addr word) = ⊥
 IsLook (Store addr word) = ⊥
@@ -73,7 +73,7 @@ looks_leave a sound (Look addr ∷ xs) all =
     ∙ ap (λ (ws : List ℕ). words_after a.fault ws (history xs)) (read_leaves (memory_of a) addr sound.memory)
     ∙ looks_leave a sound xs (All-tail IsLook (Look addr) xs all)
 
-saving_looks : (policy : Policy) (slice : Slice) → All IsLook (saving policy slice)
+pub saving_looks : (policy : Policy) (slice : Slice) → All IsLook (saving policy slice)
 saving_looks NonDestructive slice = All-map IsLook (λ (cell : ℕ). Look (slice.first + cell)) (cells slice.n) (λ k d h. tt)
 saving_looks Destructive slice = All-nil IsLook
 
@@ -136,7 +136,7 @@ early_look width job slice saved steps i h =
     (in_front (saving job.policy slice) (testing width job slice saved steps) i _ (saving_at job.policy slice i h))
 
 -- the first accesses are saving reads
-early_looks : (width : Width) (job : Job) (slice : Slice) (saved : List ℕ) (steps : List Step) (i : ℕ) → i ≤ length (saving job.policy slice) → All IsLook (take i (listed width job slice saved steps))
+pub early_looks : (width : Width) (job : Job) (slice : Slice) (saved : List ℕ) (steps : List Step) (i : ℕ) → i ≤ length (saving job.policy slice) → All IsLook (take i (listed width job slice saved steps))
 early_looks width job slice saved steps i h =
     let front : List Item = saving job.policy slice in
     subst (All IsLook) (sym (ap (take i) (append_assoc front (testing width job slice saved steps) (ending job slice saved)) ∙ take-append-le i front (testing width job slice saved steps ++ ending job slice saved) h))

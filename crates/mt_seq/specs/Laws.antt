@@ -1,17 +1,23 @@
 -- What sequences answer on sound memory, and under a fault that the algorithm catches, and what a flash sequence finds.
-use Rattle.std.specs.Prelude.{ℕ, ◌+◌, ◌*◌, ◌<◌, ◌≤◌, ◌≡◌, nat_le, nat_lt, Bool, false, if◌then◌else◌, List, map, length, slice_index, None, ◌&&◌}
+use Rattle.std.specs.Prelude.{ℕ, ◌+◌, ◌*◌, ◌<◌, ◌≤◌, ◌≡◌, nat_le, nat_lt, All, not, Bool, true, false, if◌then◌else◌, List, map, length, slice_index, Option, Some, None, ◌&&◌}
 use Rattle.std.specs.List.{range_with_len}
 use Rattle.mt_fault.specs.History.{History}
 use Rattle.mt_fault.specs.Items.{Item, passes}
 use Rattle.mt_plan.specs.declared.algorithm.Policy.{Policy}
 use Rattle.mt_plan.specs.declared.algorithm.Policy.TheVariants.{NonDestructive, Destructive}
 use Rattle.mt_plan.specs.Plan.{steps_of, IsAccepted}
-use Rattle.mt_port.specs.Board.{Board}
+use Rattle.mt_port.specs.Board.{Board, IsSound, is_urgent_due}
+use Rattle.mt_port.specs.declared.board.Touch.{Touch}
+use Rattle.mt_seq.specs.Makes.{Makes}
+use Rattle.mt_seq.specs.Stepping.{Stepping, begun, IsStep, IsUnderway}
+use Rattle.mt_port.specs.declared.request.Request.{Request}
+use Rattle.mt_seq.specs.declared.sequence.Verdict.{Verdict}
+use Rattle.mt_seq.specs.Attempts.{attempt_length, attempt_verdict, attempt_words, dropped_at}
 use Rattle.mt_seq.specs.declared.sequence.Slice.{Slice}
 use Rattle.mt_seq.specs.declared.sequence.Job.{Job}
 use Rattle.mt_seq.specs.declared.sequence.Verdict.TheVariants.{Pass, Fail}
 use Rattle.mt_seq.specs.Compare.{comparison, compare_touches, compare_hold}
-use Rattle.mt_seq.specs.Sequence.{saved_words, testing, sequence_verdict, sequence_words, sequence_hold}
+use Rattle.mt_seq.specs.Sequence.{saved_words, testing, sequence, verdict_of, sequence_verdict, sequence_words, sequence_hold}
 
 -- whether an address is one of the slice
 abbrev pub is_in : Slice → ℕ → Bool
@@ -50,6 +56,65 @@ CaughtFaultsFail =
 -- no sequence has more than 262 accesses a word
 abbrev pub SequencesAreShort : Type 0
 SequencesAreShort = (job : Job) (n : ℕ) → IsAccepted job.alg → n ≤ 64 → sequence_hold job n ≤ 262 * n
+
+-- a sequence of which nothing is made is under way
+abbrev pub SequencesBegin : Type 0
+SequencesBegin = (b : Board) (told : Option (List Touch)) (job : Job) (slice : Slice) → IsSound b → IsUnderway b told (begun job slice) b told
+
+-- and stays so after each step
+abbrev pub SequencesGoOn : Type 0
+SequencesGoOn =
+    (b : Board) (told : Option (List Touch)) (s : Stepping) (a : Board) (tape : Option (List Touch)) (t : Stepping) (c : Board) (more : Option (List Touch))
+    → IsSound b → IsUnderway b told s a tape → IsStep s a tape t c more → IsUnderway b told t c more
+
+-- after its last step all its accesses were made, and it passes exactly where no checked read differed
+abbrev pub SequencesEnd : Type 0
+SequencesEnd =
+    (b : Board) (told : Option (List Touch)) (s : Stepping) (a : Board) (tape : Option (List Touch))
+    → IsUnderway b told s a tape → s.made ≡ sequence_hold s.job s.slice.n
+    → Makes (sequence b s.job s.slice) b a told tape (not s.differs) × (verdict_of (not s.differs) ≡ sequence_verdict b s.job s.slice)
+
+-- the list of a sequence is as long as its hold
+abbrev pub HoldsAreLengths : Type 0
+HoldsAreLengths = (b : Board) (job : Job) (slice : Slice) → length (sequence b job slice) ≡ sequence_hold job slice.n
+
+-- on sound memory a dropped attempt leaves the words as they were
+abbrev pub DroppedAttemptsStay : Type 0
+DroppedAttemptsStay =
+    (may : Bool) (b : Board) (job : Job) (slice : Slice) → b.fault ≡ None → IsAccepted job.alg
+    → attempt_verdict may b job slice ≡ None → attempt_words may b job slice ≡ b.words
+
+-- on sound memory an attempt that is not dropped passes, and leaves the words as they were, or the fill
+abbrev pub WholeAttemptsPass : Type 0
+WholeAttemptsPass =
+    (may : Bool) (b : Board) (job : Job) (slice : Slice) (verdict : Verdict) → b.fault ≡ None → IsAccepted job.alg
+    → attempt_verdict may b job slice ≡ Some verdict
+    → (verdict ≡ Pass) × (attempt_words may b job slice ≡ left_words b.words job.policy slice job.fill)
+
+-- how many accesses an attempt on n words has, by where it is dropped
+abbrev pub length_to : Job → ℕ → Option ℕ → ℕ
+length_to job n None = sequence_hold job n
+length_to job n (Some i) = if nat_lt n i then i + n else i
+
+abbrev pub AttemptsAreCounted : Type 0
+AttemptsAreCounted = (may : Bool) (b : Board) (job : Job) (slice : Slice) → attempt_length may b job slice ≡ length_to job slice.n (dropped_at may b job slice)
+
+-- no attempt has more accesses than its sequence
+abbrev pub AttemptsAreShort : Type 0
+AttemptsAreShort = (may : Bool) (b : Board) (job : Job) (slice : Slice) → attempt_length may b job slice ≤ sequence_hold job slice.n
+
+-- where an attempt is dropped, an urgent request is due at its end
+abbrev pub DroppedAttemptsServe : Type 0
+DroppedAttemptsServe =
+    (may : Bool) (b : Board) (job : Job) (slice : Slice) → attempt_verdict may b job slice ≡ None
+    → is_urgent_due (b.count + attempt_length may b job slice) b.left ≡ true
+
+-- where an attempt may be dropped, an urgent request that falls due in it waits for no more accesses than the slice has words
+abbrev pub UrgentWaitsAreShort : Type 0
+UrgentWaitsAreShort =
+    (b : Board) (job : Job) (slice : Slice) → job.policy ≡ NonDestructive
+    → All (λ (r : Request). r.urgent ≡ true → b.count < r.offset) b.left
+    → All (λ (r : Request). r.urgent ≡ true → b.count + attempt_length true b job slice ≤ r.offset + slice.n) b.left
 
 -- a flash sequence has two accesses a word
 abbrev pub ComparisonsArePairs : Type 0

@@ -135,25 +135,29 @@ pub record IsMoved (job : Job) (old : Course) (item : Item) (answer : ℕ) (new 
 abbrev pub IsStepOf : Job → Course → Board → Option (List Touch) → Course → Board → Option (List Touch) → Type 0
 IsStepOf job old a told new b tape = IsStep (view_of job old) a told (view_of job new) b tape
 
--- What a course needs for so many accesses: interrupts are held, the slice is in the RAM, words fit, and there is room to count.
-pub record IsReady (b : Board) (frame : Frame) (c : Course) (count : ℕ) : Type 0 where
+-- What so many accesses need: interrupts are held, the slice is in the RAM, words fit, and there is room to count.
+pub record IsReady (b : Board) (s : Stepping) (count : ℕ) : Type 0 where
   pub held : b.held ≡ true
-  pub inside : c.slice.first + c.slice.n ≤ b.shape.ram
-  pub background : Fits b.shape.width frame.background
-  pub fill : Fits b.shape.width frame.fill
-  pub fit : All (Fits b.shape.width) c.saved.items
+  pub inside : s.slice.first + s.slice.n ≤ b.shape.ram
+  pub background : Fits b.shape.width s.job.background
+  pub fill : Fits b.shape.width s.job.fill
+  pub fit : All (Fits b.shape.width) s.saved
   pub room : b.count + count < 2 ^ 32
 
--- A course and a board after more accesses: those next in each sequence that the course is in the midst of.
-pub record Runs (job : Job) (old : Course) (a : Board) (told : Option (List Touch)) (new : Course) (b : Board) (tape : Option (List Touch)) : Type 0 where
-  pub course : IsCourse job new
+-- More accesses were made: those next in each sequence that is under way so far.
+pub record Runs (old : Stepping) (a : Board) (told : Option (List Touch)) (new : Stepping) (b : Board) (tape : Option (List Touch)) : Type 0 where
+  pub job : new.job ≡ old.job
   pub slice : new.slice ≡ old.slice
   pub shape : b.shape ≡ a.shape
   pub held : b.held ≡ a.held
   pub ahead : old.made ≤ new.made
   pub count : b.count + old.made ≡ a.count + new.made
-  pub fit : All (Fits a.shape.width) old.saved.items → All (Fits a.shape.width) new.saved.items
-  pub under : (begun : Board) (t : Option (List Touch)) → IsSound begun → IsUnderway begun t (view_of job old) a told → IsUnderway begun t (view_of job new) b tape
+  pub fit : All (Fits a.shape.width) old.saved → All (Fits a.shape.width) new.saved
+  pub under : (begun : Board) (t : Option (List Touch)) → IsSound begun → IsUnderway begun t old a told → IsUnderway begun t new b tape
+
+-- a course made more accesses
+abbrev pub RunsOf : Job → Course → Board → Option (List Touch) → Course → Board → Option (List Touch) → Type 0
+RunsOf job old a told new b tape = Runs (view_of job old) a told (view_of job new) b tape
 
 -- More where accesses are left, else the verdict
 abbrev pub progress_of : ℕ → Stepping → Progress

@@ -6,12 +6,13 @@ ghost use Rattle.mt_fault.specs.Items.{Item, Look, Store};
 ghost use Rattle.mt_plan.specs.Accesses.{act_on};
 ghost use Rattle.mt_plan.specs.Cursor.{IsCursor, cells_of, made_by};
 ghost use Rattle.mt_plan.specs.Plan.{IsAccepted, steps_of};
-ghost use Rattle.mt_seq.specs.Sequence.{is_transparent, last_of, saving};
-ghost use Rattle.mt_seq.specs.Stepping.{begun, item_at, item_of_access, job_of, view_of, stepped, place_of, FitsAccess, IsCourse, IsMoved, IsNoLook, IsReady, IsStepOf};
+ghost use Rattle.mt_seq.specs.Sequence.{is_transparent, last_of, saving, sequence_hold};
+ghost use Rattle.mt_seq.specs.Stepping.{begun, item_at, item_of_access, job_of, view_of, stepped, place_of, FitsAccess, IsCourse, IsMoved, IsNoLook, IsReady, IsStepOf, progress_of};
 ghost use Rattle.mt_seq.specs.declared.sequence.Job.{Job};
 
 use crate::access::Access;
-use crate::sequence::{Frame, Slice};
+use crate::sequence::{Frame, Slice, verdict_from};
+use crate::stepper::Progress;
 use arrayvec::ArrayVec;
 use mt_plan::{Act, Algorithm, Policy, Steps, steps};
 use mt_port::Port;
@@ -95,6 +96,28 @@ impl Course {
         ensures { result ≡ self.now.ending_from }
     {
         self.ending_from
+    }
+
+    /// The slice.
+    pub fn slice(&self) -> Slice
+        ensures { result ≡ self.now.slice }
+    {
+        self.slice
+    }
+
+    /// Whether accesses are left, and if none is, the verdict.
+    pub fn progress(&self) -> Progress
+        ensures { (job : Job) → IsCourse job self.now → result ≡ progress_of (sequence_hold job self.now.slice.n - self.now.made) (view_of job self.now) }
+    {
+        if self.made < self.ending_from {
+            return Progress::More;
+        }
+        let ended = self.made - self.ending_from;
+        if ended < u32::from(self.slice.n) {
+            Progress::More
+        } else {
+            Progress::Ended(verdict_from(!self.differs))
+        }
     }
 
     /// The words that the saving reads have answered.
@@ -265,7 +288,7 @@ impl Course {
     #[inline(always)]
     pub fn save_one<P: Port>(&mut self, port: &mut P, alg: &Algorithm, frame: Frame)
         requires course { IsCourse (job_of alg.now frame) self.old }
-        requires ready { IsReady (P.state port.old) frame self.old 1 }
+        requires ready { IsReady (P.state port.old) (view_of (job_of alg.now frame) self.old) 1 }
         requires phase { self.old.made < self.old.testing_from }
         ensures course { IsCourse (job_of alg.now frame) self.new }
         ensures step { IsStepOf (job_of alg.now frame) self.old (P.state port.old) (P.tape port.old) self.new (P.state port.new) (P.tape port.new) }
@@ -279,7 +302,7 @@ impl Course {
     #[inline(always)]
     pub fn test_one<P: Port>(&mut self, port: &mut P, alg: &Algorithm, frame: Frame, width: Width)
         requires course { IsCourse (job_of alg.now frame) self.old }
-        requires ready { IsReady (P.state port.old) frame self.old 1 }
+        requires ready { IsReady (P.state port.old) (view_of (job_of alg.now frame) self.old) 1 }
         requires width { width ≡ (P.state port.old).shape.width }
         requires from { self.old.testing_from ≤ self.old.made }
         requires to { self.old.made < self.old.ending_from }
@@ -295,7 +318,7 @@ impl Course {
     #[inline(always)]
     pub fn end_one<P: Port>(&mut self, port: &mut P, alg: &Algorithm, frame: Frame)
         requires course { IsCourse (job_of alg.now frame) self.old }
-        requires ready { IsReady (P.state port.old) frame self.old 1 }
+        requires ready { IsReady (P.state port.old) (view_of (job_of alg.now frame) self.old) 1 }
         requires from { self.old.ending_from ≤ self.old.made }
         requires to { self.old.made < self.old.ending_from + self.old.slice.n }
         ensures course { IsCourse (job_of alg.now frame) self.new }
@@ -309,7 +332,7 @@ impl Course {
     /// Makes the next access.
     pub fn step<P: Port>(&mut self, port: &mut P, alg: &Algorithm, frame: Frame)
         requires course { IsCourse (job_of alg.now frame) self.old }
-        requires ready { IsReady (P.state port.old) frame self.old 1 }
+        requires ready { IsReady (P.state port.old) (view_of (job_of alg.now frame) self.old) 1 }
         requires left { self.old.made < self.old.ending_from + self.old.slice.n }
         ensures course { IsCourse (job_of alg.now frame) self.new }
         ensures step { IsStepOf (job_of alg.now frame) self.old (P.state port.old) (P.tape port.old) self.new (P.state port.new) (P.tape port.new) }

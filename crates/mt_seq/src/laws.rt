@@ -1,6 +1,7 @@
 //! Laws of sequences.
 
-ghost use Rattle.mt_seq.specs.Laws.{SoundMemoryPasses, SoundMemoryStays, CaughtFaultsFail, SequencesAreShort, ComparisonsArePairs, NothingIsFoundWhereAllEqual};
+ghost use Rattle.mt_seq.specs.Laws.{SoundMemoryPasses, SoundMemoryStays, CaughtFaultsFail, SequencesAreShort, HoldsAreLengths, ComparisonsArePairs, NothingIsFoundWhereAllEqual};
+ghost use Rattle.mt_seq.specs.Laws.{SequencesBegin, SequencesGoOn, SequencesEnd, AttemptsAreCounted, AttemptsAreShort, DroppedAttemptsServe, DroppedAttemptsStay, UrgentWaitsAreShort, WholeAttemptsPass};
 
 /// On sound memory each sequence passes, and the words stay as they were, or the fill is left.
 pub fn sound_memory()
@@ -16,6 +17,36 @@ pub fn caught_faults_fail()
 /// No sequence has more than 262 accesses a word, so none has more than 16,768.
 pub fn sequences_are_short()
     ensures { SequencesAreShort }
+{}
+
+/// From the first step to the last a sequence makes its accesses, and in the end it has its verdict.
+pub fn steps_make_the_sequence()
+    ensures begin { SequencesBegin }
+    ensures go_on { SequencesGoOn }
+    ensures end { SequencesEnd }
+{}
+
+/// The list of a sequence is as long as its hold.
+pub fn holds_are_lengths()
+    ensures { HoldsAreLengths }
+{}
+
+/// On sound memory a dropped attempt leaves the words as they were; one that is not dropped passes, and leaves them or the fill.
+pub fn attempts_on_sound_memory()
+    ensures stays { DroppedAttemptsStay }
+    ensures passes { WholeAttemptsPass }
+{}
+
+/// How long an attempt is, and that it is no longer than its sequence.
+pub fn attempts_are_counted()
+    ensures count { AttemptsAreCounted }
+    ensures short { AttemptsAreShort }
+{}
+
+/// Where an attempt is dropped an urgent request is due, and none that falls due in an attempt waits longer than the slice has words.
+pub fn urgent_requests_wait_shortly()
+    ensures serves { DroppedAttemptsServe }
+    ensures short { UrgentWaitsAreShort }
 {}
 
 /// A flash sequence has two accesses a word, and finds nothing exactly where each word equals its copy.
