@@ -3,7 +3,7 @@ use Rattle.std.proofs.Common.{ℕ, zero, suc, ◌≡◌, Bool, true, false, cond
 use Rattle.std.specs.Prelude.{is_some}
 use Rattle.mt_plan.specs.declared.algorithm.Policy.{Policy}
 use Rattle.mt_plan.specs.declared.algorithm.Policy.TheVariants.{NonDestructive, Destructive}
-use Rattle.mt_seq.specs.AttemptLaws.{DropsInTime as AttemptsDropInTime}
+use Rattle.mt_seq.specs.Laws.{UrgentWaitsAreShort}
 use Rattle.mt_seq.specs.declared.sequence.Verdict.{Verdict}
 use Rattle.mt_window.specs.Serving.{Scene, scene}
 use Rattle.mt_window.specs.Slices.{Trail, started, taken_by, next_attempt, scene_behind, after_attempt, tried, slices}
@@ -26,16 +26,16 @@ restored_is : (p : Policy) (m n : ℕ) → restored p m ≡ Some n → (p ≡ No
 restored_is NonDestructive m n e = (refl, cc)
 restored_is Destructive m n e = cc
 
-pub pass_drops : AttemptsDropInTime → DropsInTime of_pass
+pub pass_drops : UrgentWaitsAreShort → DropsInTime of_pass
 pass_drops time c x b n e late = λ k d low urgent.
     (let is = restored_is (job_of c x).policy x.slice.n n e in
-    let soon = time b (job_of c x) x.slice is.0 late k d low urgent in
+    let soon = time b (job_of c x) x.slice is.0 (λ i q h u. late i q h) k d low urgent in
     omega (arith, soon, is.1))
 
-pub test_drops : AttemptsDropInTime → DropsInTime of_test
+pub test_drops : UrgentWaitsAreShort → DropsInTime of_test
 test_drops time c x b n e late = λ k d low urgent.
     (let is = restored_is (job_of c x).policy x.slice.n n e in
-    let soon = time b (job_of c x) x.slice is.0 late k d low urgent in
+    let soon = time b (job_of c x) x.slice is.0 (λ i q h u. late i q h) k d low urgent in
     omega (arith, soon, is.1))
 
 -- ---- a tick whose mark is set

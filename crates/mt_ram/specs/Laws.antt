@@ -1,5 +1,7 @@
 -- What running events and boundaries are known by.
-use Rattle.std.specs.Prelude.{ℕ, ◌≡◌, true, false}
+use Rattle.std.specs.Prelude.{ℕ, ◌≡◌, Bool, true, false, None}
+use Rattle.mt_plan.specs.Plan.{IsAccepted}
+use Rattle.mt_port.specs.Board.{Board}
 use Rattle.mt_window.specs.Serving.{Scene, serve_due, serve_left}
 use Rattle.mt_window.specs.Slices.{Tests, slices}
 use Rattle.mt_window.specs.Rows.{work_in}
@@ -7,9 +9,9 @@ use Rattle.mt_window.specs.Events.{Running as Events, entered, ran, event}
 use Rattle.mt_window.specs.Waits.{WaitsAreShortIn, UrgentWaitsAreShortIn}
 use Rattle.mt_seq.specs.declared.sequence.Verdict.{Verdict}
 use Rattle.mt_blocks.specs.Slices.{Piece}
-use Rattle.mt_ram.specs.State.{RamTst, IsRunning, IsInside}
+use Rattle.mt_ram.specs.State.{RamTst, set_of, IsRunning, IsInside}
 use Rattle.mt_ram.specs.Table.{Service, MainFunction, row, after, ram_table}
-use Rattle.mt_ram.specs.Event.{of_pass, ticking, partial_test}
+use Rattle.mt_ram.specs.Event.{attempt_at, of_pass, ticking, partial_test}
 
 -- of each partial test
 abbrev pub WaitsOfPartialTests : Type 0
@@ -17,6 +19,11 @@ WaitsOfPartialTests = (block : ℕ) → WaitsAreShortIn (partial_test block)
 
 abbrev pub UrgentWaitsOfPartialTests : Type 0
 UrgentWaitsOfPartialTests = (block : ℕ) → UrgentWaitsAreShortIn (partial_test block)
+
+-- on a board without a fault an attempt that is dropped leaves the words as they were
+abbrev pub DroppedAttemptsLeaveWords : Type 0
+DroppedAttemptsLeaveWords = (may : Bool) (r : RamTst) (p : Piece) (b : Board) → b.fault ≡ None → IsAccepted (set_of r).alg
+    → (attempt_at may r p b).verdict ≡ None → (attempt_at may r p b).words ≡ b.words
 
 -- a tick that no mark stops
 abbrev pub unstopped : Tests RamTst Piece Verdict

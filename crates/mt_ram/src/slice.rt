@@ -15,7 +15,7 @@ use mt_blocks::{
     ParamSet, Position, following, is_last, next_of_test, or_start, passes_go_on, slice_at,
 };
 use mt_port::Port;
-use mt_seq::{Frame, Verdict, attempts_end_soon, sequences_are_short, try_slice};
+use mt_seq::{Frame, Verdict, attempts_are_counted, sequences_are_short, try_slice, urgent_requests_wait_shortly};
 
 // What a set says of a block, beside the algorithm.
 fn frame_of(set: &ParamSet, block: u32) -> Frame
@@ -46,7 +46,8 @@ impl Ram {
         ensures whole { may ≡ false → is_some result ≡ true }
         ensures due { is_some result ≡ false → is_urgent_due (P.state port.new).count (P.state port.new).left ≡ true }
     {
-        attempts_end_soon();
+        attempts_are_counted();
+        urgent_requests_wait_shortly();
         sequences_are_short();
         let set = self.set();
         let frame = frame_of(set, at.block);

@@ -3,10 +3,10 @@ use Rattle.mt_ram.proofs.Marks.{pass_drops, test_drops}
 use Rattle.mt_ram.proofs.laws.urgent_waits_of_running_calls.Goals as goal
 
 pub returns-clause-tick : goal.returns-clause-tick
-returns-clause-tick c = c.waits_are_short.ensures.urgent (pass_drops c.attempts_end_soon.ensures.time) tt
+returns-clause-tick c = c.waits_are_short.ensures.urgent (pass_drops c.urgent_requests_wait_shortly.ensures.short) tt
 
 pub returns-clause-full : goal.returns-clause-full
-returns-clause-full c = c.waits_are_short-2.ensures.urgent (test_drops c.attempts_end_soon.ensures.time) tests.Full
+returns-clause-full c = c.waits_are_short-2.ensures.urgent (test_drops c.urgent_requests_wait_shortly.ensures.short) tests.Full
 
 pub returns-clause-partial : goal.returns-clause-partial
-returns-clause-partial c = λ block. c.waits_are_short-2.ensures.urgent (test_drops c.attempts_end_soon.ensures.time) (tests.Block block)
+returns-clause-partial c = λ block. c.waits_are_short-2.ensures.urgent (test_drops c.urgent_requests_wait_shortly.ensures.short) (tests.Block block)
