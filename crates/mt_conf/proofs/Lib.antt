@@ -1,6 +1,5 @@
 pub mod Lists
 pub mod Least
-pub mod Marches
 pub mod Words
 pub mod Checks
 pub mod Tables

@@ -14,6 +14,8 @@ use Rattle.mt_march.specs.declared.march.MarchRefusal.{MarchRefusal}
 use Rattle.mt_march.specs.Known.{march_c_minus}
 use Rattle.mt_march.specs.Value.{march_of}
 use Rattle.mt_march.specs.Accepted.{IsAcceptedMarch}
+use Rattle.mt_march.specs.Laws.{UnrefusedIsMarch}
+use Rattle.mt_march.specs.Reading.{march_refusal}
 use Rattle.mt_plan.specs.declared.algorithm.Algorithm.TheVariants.{Checkerboard, March as Marches, WalkPath, Galpat, TransparentGalpat}
 use Rattle.mt_plan.specs.declared.algorithm.Policy.TheVariants.{NonDestructive, Destructive}
 use Rattle.mt_plan.specs.Plan.{IsAccepted}
@@ -25,8 +27,7 @@ use Rattle.mt_blocks.specs.Accepted.{AreApart, spans_of, IsAcceptedBlock, IsAcce
 use Rattle.mt_conf.specs.declared.config.ConfigRefusal.{ConfigRefusal}
 use Rattle.mt_conf.specs.Lookup.{has_key, number_at, text_at, array_at, fields}
 use Rattle.mt_conf.specs.Rules.{any_block, wrong_in_set, wrong_count_in_set, wrong_algorithm_in_set, transparent_destructive_in_set, is_destructive, wrong_range, overlap_in_set, wrong_cells, is_named, is_count, small}
-use Rattle.mt_conf.specs.Outcome.{march_refusal, march_of_set, first_some, refused_in_set, refused_from, block_of, march_at, algorithm_at, set_of}
-use Rattle.mt_conf.proofs.Marches.{march_is_spelled}
+use Rattle.mt_conf.specs.Outcome.{march_of_set, first_some, refused_in_set, refused_from, block_of, march_at, algorithm_at, set_of}
 use Rattle.mt_conf.proofs.Words.{word_fits}
 use Rattle.mt_conf.proofs.Tables.{is_table, each, are_tables, all_mapped}
 use Rattle.mt_conf.proofs.Numbers.{not_false, cells, order}
@@ -37,7 +38,7 @@ pub record SetFacts (ram : ℤ) (s : Members) : Type 0 where
   pub types : wrong_in_set s ≡ false
   pub count : wrong_count_in_set s ≡ false
   pub algorithm : wrong_algorithm_in_set s ≡ false
-  pub march : (i : ℕ) × (refused_in_set i s ≡ None)
+  pub march : IsAcceptedMarch (march_at s).elements.items
   pub kept : transparent_destructive_in_set s ≡ false
   pub range : any_block (wrong_range ram) s ≡ false
   pub overlap : overlap_in_set s ≡ false
@@ -46,12 +47,6 @@ pub record SetFacts (ram : ℤ) (s : Members) : Type 0 where
 none_left : (a b : Option ConfigRefusal) → first_some a b ≡ None → (a ≡ None) × (b ≡ None)
 none_left None b h = (refl, h)
 none_left (Some r) b h = absurd cc
-
-pub none_refused : (i : ℕ) (ds : List Data) → refused_from i ds ≡ None → AllByRecursion (λ d. (k : ℕ) × (refused_in_set k (fields d) ≡ None)) ds
-none_refused i [] h = tt
-none_refused i (d ∷ ds) h =
-    let parts = none_left (refused_in_set i (fields d)) (refused_from (i + 1) ds) h in
-    ((i, parts.0), none_refused (i + 1) ds parts.1)
 
 c_minus_accepted : IsAcceptedMarch march_c_minus
 c_minus_accepted =
@@ -71,13 +66,20 @@ none_mapped : (i : ℕ) (o : Option MarchRefusal) → option_map (march_of_set i
 none_mapped i None h = refl
 none_mapped i (Some r) h = absurd cc
 
-march_by : (i : ℕ) (written : Bool) (text : List ℕ) → cond written (option_map (march_of_set i) (march_refusal text)) None ≡ None → IsAcceptedMarch (cond written (march_of text) march_c_minus)
-march_by i true text h = (march_is_spelled text (none_mapped i (march_refusal text) h)).1
-march_by i false text h = c_minus_accepted
+march_by : UnrefusedIsMarch → (i : ℕ) (written : Bool) (text : List ℕ) → cond written (option_map (march_of_set i) (march_refusal text)) None ≡ None
+    → IsAcceptedMarch (cond written (march_of text) march_c_minus)
+march_by law i true text h = (law text (none_mapped i (march_refusal text) h)).1
+march_by law i false text h = c_minus_accepted
 
-march_accepted : (i : ℕ) (s : Members) → refused_in_set i s ≡ None → IsAcceptedMarch (march_at s).elements.items
+march_accepted : UnrefusedIsMarch → (i : ℕ) (s : Members) → refused_in_set i s ≡ None → IsAcceptedMarch (march_at s).elements.items
 unfolding refused_in_set march_at
-march_accepted i s h = march_by i (has_key (codes "march") s) (text_at (codes "march") s) h
+march_accepted law i s h = march_by law i (has_key (codes "march") s) (text_at (codes "march") s) h
+
+pub marches_accepted : UnrefusedIsMarch → (i : ℕ) (ds : List Data) → refused_from i ds ≡ None → AllByRecursion (λ d. IsAcceptedMarch (march_at (fields d)).elements.items) ds
+marches_accepted law i [] h = tt
+marches_accepted law i (d ∷ ds) h =
+    let parts = none_left (refused_in_set i (fields d)) (refused_from (i + 1) ds) h in
+    (march_accepted law i (fields d) parts.0, marches_accepted law (i + 1) ds parts.1)
 
 accepted_by : (a b c d : Bool) (m : March) → IsAcceptedMarch m.elements.items → IsAccepted (cond a Checkerboard (cond b (Marches m) (cond c WalkPath (cond d Galpat TransparentGalpat))))
 accepted_by true b c d m h = tt
@@ -95,9 +97,9 @@ transparent_by false false false true e m known h = absurd cc
 transparent_by false false false false true m known h = refl
 transparent_by false false false false false m known h = absurd cc
 
-algorithm_accepted : (i : ℕ) (s : Members) → refused_in_set i s ≡ None → IsAccepted (algorithm_at s)
+algorithm_accepted : (s : Members) → IsAcceptedMarch (march_at s).elements.items → IsAccepted (algorithm_at s)
 unfolding algorithm_at
-algorithm_accepted i s h = accepted_by _ _ _ _ (march_at s) (march_accepted i s h)
+algorithm_accepted s h = accepted_by _ _ _ _ (march_at s) h
 
 is_transparent_name : (s : Members) → wrong_algorithm_in_set s ≡ false → is_transparent (algorithm_at s) ≡ true → is_named (codes "algorithm") (codes "transparent-galpat") s ≡ true
 unfolding algorithm_at wrong_algorithm_in_set
@@ -177,7 +179,7 @@ set_accepted shape ram s e few same facts =
     let count = set_count shape.width s facts.count in
     let sizes = set_cells s facts.cells in
     record {
-      accepted = algorithm_accepted facts.march.0 s facts.march.1;
+      accepted = algorithm_accepted s facts.march;
       kept = λ transparent.
           all_mapped (λ d. is_destructive (fields d) ≡ false) (λ (b : Block). b.policy ≡ NonDestructive) (λ d. block_of shape.width (fields d)) (λ d h. kept_block shape.width d h) (array_at (codes "block") s)
           (each is_destructive (array_at (codes "block") s) (block_tables s facts.types) (none_destructive s facts.algorithm facts.kept transparent));

@@ -7,16 +7,18 @@ use Rattle.std.proofs.lemmas.Bool.Decides.{nat_tests}
 use Rattle.std.proofs.lemmas.List.{length-map}
 use Rattle.toml.specs.Data.{Data, Members, get_member}
 use Rattle.mt_port.specs.Board.{IsWithinLimits}
+use Rattle.mt_march.specs.Accepted.{IsAcceptedMarch}
+use Rattle.mt_march.specs.Laws.{UnrefusedIsMarch}
 use Rattle.mt_blocks.specs.Accepted.{IsAcceptedSet, IsAcceptedRam, IsAcceptedFls}
 use Rattle.mt_conf.specs.Lookup.{number_at, text_at, array_at, has_table, fields}
 use Rattle.mt_conf.specs.Rules.{other_type, has_tables, any_set, any_block, in_fls, wrong_in_top, wrong_in_set, wrong_in_fls, wrong_type, wrong_size, wrong_count_in_set, wrong_count_in_fls, wrong_count, is_count, wrong_algorithm_in_set, wrong_algorithm, transparent_destructive_in_set, transparent_destructive, wrong_range, wrong_block_range, overlap_in_set, overlap, wrong_cells, wrong_cells_range, wrong_fls, wrong_flash_range, copy_overlap_in_fls, copy_overlap, is_within, width_at}
-use Rattle.mt_conf.specs.Outcome.{rules_of, first_broken, refused_march, refused_in_set, set_of, fls_at, shape_of, config_of}
+use Rattle.mt_conf.specs.Outcome.{rules_of, first_broken, refused_march, march_at, set_of, fls_at, shape_of, config_of}
 use Rattle.mt_conf.specs.Accepted.{IsAcceptedConfig}
 use Rattle.mt_conf.proofs.Least.{none_by, holds}
 use Rattle.mt_conf.proofs.Words.{word_fits}
 use Rattle.mt_conf.proofs.Tables.{each, are_tables, all_mapped}
 use Rattle.mt_conf.proofs.Numbers.{not_false, within}
-use Rattle.mt_conf.proofs.Sets.{SetFacts, none_refused, set_accepted}
+use Rattle.mt_conf.proofs.Sets.{SetFacts, marches_accepted, set_accepted}
 use Rattle.mt_conf.proofs.FlashBlocks.{fls_taken}
 
 -- what the rules say of a table, that of its sets and of `fls` apart
@@ -102,23 +104,23 @@ facts t h =
 
 joined : (ram : ℤ) (ds : List Data)
     → AllByRecursion (λ d. wrong_in_set (fields d) ≡ false) ds → AllByRecursion (λ d. wrong_count_in_set (fields d) ≡ false) ds → AllByRecursion (λ d. wrong_algorithm_in_set (fields d) ≡ false) ds
-    → AllByRecursion (λ d. (i : ℕ) × (refused_in_set i (fields d) ≡ None)) ds → AllByRecursion (λ d. transparent_destructive_in_set (fields d) ≡ false) ds
+    → AllByRecursion (λ d. IsAcceptedMarch (march_at (fields d)).elements.items) ds → AllByRecursion (λ d. transparent_destructive_in_set (fields d) ≡ false) ds
     → AllByRecursion (λ d. any_block (wrong_range ram) (fields d) ≡ false) ds → AllByRecursion (λ d. overlap_in_set (fields d) ≡ false) ds → AllByRecursion (λ d. wrong_cells (fields d) ≡ false) ds
     → AllByRecursion (λ d. SetFacts ram (fields d)) ds
 joined ram [] a b c m k r o e = tt
 joined ram (d ∷ ds) a b c m k r o e =
     (record { types = a.0; count = b.0; algorithm = c.0; march = m.0; kept = k.0; range = r.0; overlap = o.0; cells = e.0 }, joined ram ds a.1 b.1 c.1 m.1 k.1 r.1 o.1 e.1)
 
-none_march : (t : Members) → refused_march t ≡ None → AllByRecursion (λ d. (i : ℕ) × (refused_in_set i (fields d) ≡ None)) (array_at (codes "set") t)
+marches : UnrefusedIsMarch → (t : Members) → refused_march t ≡ None → AllByRecursion (λ d. IsAcceptedMarch (march_at (fields d)).elements.items) (array_at (codes "set") t)
 unfolding refused_march
-none_march t h = none_refused 0 (array_at (codes "set") t) h
+marches law t h = marches_accepted law 0 (array_at (codes "set") t) h
 
-set_facts : (t : Members) → Facts t → AllByRecursion (λ d. SetFacts (number_at (codes "ram") t) (fields d)) (array_at (codes "set") t)
-set_facts t f =
+set_facts : UnrefusedIsMarch → (t : Members) → Facts t → AllByRecursion (λ d. SetFacts (number_at (codes "ram") t) (fields d)) (array_at (codes "set") t)
+set_facts law t f =
     let ds = array_at (codes "set") t in
     let tables = are_tables (codes "set") t f.sets in
     let ram = number_at (codes "ram") t in
-    joined ram ds (each wrong_in_set ds tables f.set_types) (each wrong_count_in_set ds tables f.set_counts) (each wrong_algorithm_in_set ds tables f.algorithms) (none_march t f.marches)
+    joined ram ds (each wrong_in_set ds tables f.set_types) (each wrong_count_in_set ds tables f.set_counts) (each wrong_algorithm_in_set ds tables f.algorithms) (marches law t f.marches)
     (each transparent_destructive_in_set ds tables f.kept) (each (any_block (wrong_range ram)) ds tables f.ranges) (each overlap_in_set ds tables f.overlaps) (each wrong_cells ds tables f.cells)
 
 limits : (t : Members) → Facts t → IsWithinLimits (shape_of t)
@@ -131,19 +133,19 @@ limits t f =
 count_low : (n : ℕ) → not (is_count 16 n) ≡ false → (1 ≤ n) × (n ≤ 16)
 count_low n h = (grind (arith, nat_tests, h), grind (arith, nat_tests, h))
 
-sets_taken : (t : Members) → Facts t → All (IsAcceptedSet (shape_of t)) (map (λ d. set_of (width_at t) (fields d)) (array_at (codes "set") t))
+sets_taken : UnrefusedIsMarch → (t : Members) → Facts t → All (IsAcceptedSet (shape_of t)) (map (λ d. set_of (width_at t) (fields d)) (array_at (codes "set") t))
 unfolding shape_of
-sets_taken t f =
+sets_taken law t f =
     let ram = number_at (codes "ram") t in
     let size = within ram 1 65536 (omega arith) f.ram in
     all_mapped (λ d. SetFacts ram (fields d)) (IsAcceptedSet (shape_of t)) (λ d. set_of (width_at t) (fields d)) (λ d facts. set_accepted (shape_of t) ram (fields d) size.0 size.2 refl facts)
-    (array_at (codes "set") t) (set_facts t f)
+    (array_at (codes "set") t) (set_facts law t f)
 
-ram_taken : (t : Members) → Facts t → IsAcceptedRam (shape_of t) (record { sets = map (λ d. set_of (width_at t) (fields d)) (array_at (codes "set") t) })
-ram_taken t f =
+ram_taken : UnrefusedIsMarch → (t : Members) → Facts t → IsAcceptedRam (shape_of t) (record { sets = map (λ d. set_of (width_at t) (fields d)) (array_at (codes "set") t) })
+ram_taken law t f =
     let count : (1 ≤ length (map (λ d. set_of (width_at t) (fields d)) (array_at (codes "set") t))) × (length (map (λ d. set_of (width_at t) (fields d)) (array_at (codes "set") t)) ≤ 16) =
     rw (length-map (array_at (codes "set") t) (λ d. set_of (width_at t) (fields d))) (count_low (length (array_at (codes "set") t)) f.count) in
-    record { limits = limits t f; some = count.0; few = count.1; sets = sets_taken t f }
+    record { limits = limits t f; some = count.0; few = count.1; sets = sets_taken law t f }
 
 flash_taken : (t : Members) → Facts t → IsAcceptedFls (shape_of t) (fls_at t)
 unfolding fls_at shape_of
@@ -152,13 +154,13 @@ flash_taken t f =
     let size = within flash 0 65536 (omega arith) f.flash in
     fls_taken (shape_of t) flash (get_member (codes "fls") t) (limits t f) refl size.0 size.2 f.fls f.fls_types f.fls_counts f.flash_ranges f.copies
 
-pub taken : (t : Members) → first_broken t ≡ None → IsAcceptedConfig (config_of t)
+pub taken : UnrefusedIsMarch → (t : Members) → first_broken t ≡ None → IsAcceptedConfig (config_of t)
 unfolding config_of shape_of
-taken t h =
+taken law t h =
     let f = facts t h in
     record {
       limits = limits t f;
       initial = word_fits (width_at t) (text_at (codes "initial") t);
-      ram_tst = ram_taken t f;
+      ram_tst = ram_taken law t f;
       fls_tst = flash_taken t f;
     }

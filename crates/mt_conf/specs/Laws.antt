@@ -1,13 +1,8 @@
 -- Laws of readings.
 use Rattle.std.specs.Prelude.{◌≡◌, ◌↔◌, ℕ, List, ◌∷◌, ◌++◌, All, Option, Some, None}
 use Rattle.toml.specs.Data.{Members}
-use Rattle.mt_march.specs.declared.march.MarchRefusal.{MarchRefusal}
-use Rattle.mt_march.specs.Grammar.{SpellsMarch}
-use Rattle.mt_march.specs.Reading.{Refuses}
-use Rattle.mt_march.specs.Accepted.{IsAcceptedMarch}
-use Rattle.mt_march.specs.Value.{march_of}
 use Rattle.mt_conf.specs.declared.config.ConfigRefusal.{ConfigRefusal}
-use Rattle.mt_conf.specs.Outcome.{rules_of, first_broken, march_refusal, config_of}
+use Rattle.mt_conf.specs.Outcome.{rules_of, first_broken, config_of}
 use Rattle.mt_conf.specs.Accepted.{IsAcceptedConfig}
 
 -- the refusal is that of a broken rule, and no rule before it is broken
@@ -25,11 +20,3 @@ AcceptedBreaksNoRule = (t : Members) → first_broken t ≡ None → All (λ rul
 -- where nothing is refused, the configuration is one that the modules take
 abbrev pub AcceptedIsTaken : Type 0
 AcceptedIsTaken = (t : Members) → first_broken t ≡ None → IsAcceptedConfig (config_of t)
-
--- a march is refused as the march notation refuses it
-abbrev pub MarchIsRefused : Type 0
-MarchIsRefused = (text : List ℕ) (r : MarchRefusal) → Refuses text r ↔ (march_refusal text ≡ Some r)
-
--- a march that is not refused is spelled by its text, and accepted
-abbrev pub MarchIsSpelled : Type 0
-MarchIsSpelled = (text : List ℕ) → march_refusal text ≡ None → SpellsMarch text (march_of text) × IsAcceptedMarch (march_of text)

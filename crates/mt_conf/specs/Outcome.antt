@@ -4,14 +4,11 @@ use Rattle.std.specs.Str.{is_utf8}
 use Rattle.toml.specs.Data.{Data, Members, get_member}
 use Rattle.toml.specs.Parse.{parse_document}
 use Rattle.mt_word.specs.declared.Width.{Width}
-use Rattle.mt_march.specs.Machine.{fault}
-use Rattle.mt_march.specs.declared.spelling.Expects.TheVariants.{Brace}
 use Rattle.mt_march.specs.declared.march.Element.{Element}
 use Rattle.mt_march.specs.declared.march.March.{March}
-use Rattle.mt_march.specs.declared.march.MarchKind.TheVariants.{Spelling}
 use Rattle.mt_march.specs.declared.march.MarchRefusal.{MarchRefusal}
 use Rattle.mt_march.specs.Known.{march_c_minus}
-use Rattle.mt_march.specs.Reading.{or_else, rule_broken}
+use Rattle.mt_march.specs.Reading.{march_refusal}
 use Rattle.mt_march.specs.Value.{march_of}
 use Rattle.mt_plan.specs.declared.algorithm.Algorithm.{Algorithm}
 use Rattle.mt_plan.specs.declared.algorithm.Algorithm.TheVariants.{Checkerboard, March as Marches, WalkPath, Galpat, TransparentGalpat}
@@ -29,10 +26,6 @@ use Rattle.mt_conf.specs.declared.config.ConfigRefusal.TheVariants.{NotToml, Unk
 -- the table that the bytes are
 unfoldable pub document : List ℕ → Option Members
 document bytes = if is_utf8 bytes then parse_document bytes else None
-
--- why a text is no march that a test may run, if it is none
-unfoldable pub march_refusal : List ℕ → Option MarchRefusal
-march_refusal text = or_else (fault Brace 1 text) Spelling (rule_broken text)
 
 -- a refused march of the set with the number i
 abbrev pub march_of_set : ℕ → MarchRefusal → ConfigRefusal

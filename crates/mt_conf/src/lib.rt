@@ -13,7 +13,7 @@ mod values;
 mod writing;
 
 pub use config::{Config, ConfigRefusal};
-pub use laws::{accepted_is_taken, marches_are_read, refusal_is_least};
+pub use laws::{accepted_is_taken, refusal_is_least};
 pub use reading::read_config;
 pub use writing::write_config;
 

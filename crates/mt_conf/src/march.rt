@@ -2,9 +2,10 @@
 
 ghost use Rattle.std.specs.Prelude.{◌≡◌, ◌≤◌, ◌+◌, ℕ, None, codes, map, length, option_map, IfOk};
 ghost use Rattle.toml.specs.View.{view, table_view};
+ghost use Rattle.mt_march.specs.Reading.{march_refusal};
 ghost use Rattle.mt_march.specs.Value.{march_of};
 ghost use Rattle.mt_conf.specs.Lookup.{array_at, fields};
-ghost use Rattle.mt_conf.specs.Outcome.{march_refusal, march_with, march_of_set, refused_in_set, refused_from, refused_march};
+ghost use Rattle.mt_conf.specs.Outcome.{march_with, march_of_set, refused_in_set, refused_from, refused_march};
 
 use crate::config::ConfigRefusal;
 use crate::lookup::{array_at, has_key, text_at};

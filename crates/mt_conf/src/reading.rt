@@ -8,6 +8,7 @@ ghost use Rattle.mt_conf.specs.declared.config.ConfigRefusal.{ConfigRefusal};
 
 use crate::config::{Config, ConfigRefusal};
 use crate::flash::{has_copy_overlap, has_wrong_flash_range};
+use crate::laws::accepted_is_taken;
 use crate::march::refused_march;
 use crate::shape::{has_unknown_key, has_wrong_type, lacks_key};
 use crate::value::config_of;
@@ -129,6 +130,7 @@ pub fn read_config(alloc: Global, text: &[u8]) -> Result<Config, ConfigRefusal>
 {
     let table = table_of(alloc, text)?;
     check(&table)?;
+    accepted_is_taken();
     match config_of(alloc, &table) {
         Ok(config) => Ok(config),
         Err(_) => Err(ConfigRefusal::NoMemory),

@@ -1,5 +1,4 @@
 pub mod Blocks
 pub mod Moves
 pub mod Settings
-pub mod Ticks
-pub mod BlockTests
+pub mod Walks

@@ -2,8 +2,7 @@
 use Rattle.std.proofs.Common.{ℕ, ◌≡◌, Bool, false, Option, None, Some, refl, ◌∙◌}
 use Rattle.std.specs.Prelude.{◌||◌}
 use Rattle.mt_window.specs.declared.reply.Detail.TheVariants.{Bgnd}
-use Rattle.mt_window.proofs.Serving.{IsKept}
-use Rattle.mt_window.proofs.Rows.{row-keeps}
+use Rattle.mt_window.specs.Kept.{IsKept, row-keeps}
 use Rattle.mt_blocks.specs.declared.pass.Position.{Position}
 use Rattle.mt_blocks.specs.Slices.{Piece, next_of}
 use Rattle.mt_fls.specs.State.{FlsTst, bgnd_spans}

@@ -5,7 +5,8 @@ use Rattle.mt_window.specs.declared.reply.TestResult.{TestResult}
 use Rattle.mt_window.specs.declared.reply.TestResult.TheVariants.{Ok, NotOk}
 use Rattle.mt_window.specs.declared.reply.Detail.{Detail}
 use Rattle.mt_window.specs.declared.reply.Detail.TheVariants.{Bgnd, Fgnd}
-use Rattle.mt_window.specs.Slices.{Tests}
+use Rattle.mt_port.specs.Board.{Board}
+use Rattle.mt_window.specs.Slices.{Tests, Tried}
 use Rattle.mt_window.specs.Events.{Running as Events}
 use Rattle.mt_window.specs.Rows.{by_row}
 use Rattle.mt_blocks.specs.declared.config.FlashBlock.{FlashBlock}
@@ -66,15 +67,24 @@ compared f p v failed =
       fgnd = if p.last then result_of (failed || is_different v) else f.fgnd;
     }
 
+-- an attempt at a slice of these blocks: each word is compared with its copy. It changes no word, and is never dropped.
+abbrev pub attempt_at : List FlashBlock → Piece → Board → Tried (Option ℕ)
+attempt_at blocks p b = record {
+  words = b.words;
+  count = compare_hold p.slice.n;
+  touches = compare_touches p.slice.first (copy_of blocks p.place) p.slice.n;
+  verdict = Some (comparison b.flash p.slice.first (copy_of blocks p.place) p.slice.n);
+}
+
 -- the slices of a tick: the group is left at the first boundary by which an Abort or a Suspend was accepted
 abbrev pub of_pass : Tests FlsTst Piece (Option ℕ)
 of_pass = record {
   table = fls_table;
   stops = λ f. f.mark;
-  words = λ f p b. b.words;
+  retries = λ f. 0;
   hold = λ f p. compare_hold p.slice.n;
-  verdict = λ f p b. comparison b.flash p.slice.first (copy_of f.setting.config.bgnd p.place) p.slice.n;
-  touches = λ f p b. compare_touches p.slice.first (copy_of f.setting.config.bgnd p.place) p.slice.n;
+  restores = λ f p. None;
+  attempt = λ may f p b. attempt_at f.setting.config.bgnd p b;
   taken = λ f p v failed. passed f p v;
   failed = λ p v failed. failed;
 }
@@ -84,10 +94,10 @@ abbrev pub of_block : Tests FlsTst Piece (Option ℕ)
 of_block = record {
   table = fls_table;
   stops = λ f. false;
-  words = λ f p b. b.words;
+  retries = λ f. 0;
   hold = λ f p. compare_hold p.slice.n;
-  verdict = λ f p b. comparison b.flash p.slice.first (copy_of f.setting.config.fgnd p.place) p.slice.n;
-  touches = λ f p b. compare_touches p.slice.first (copy_of f.setting.config.fgnd p.place) p.slice.n;
+  restores = λ f p. None;
+  attempt = λ may f p b. attempt_at f.setting.config.fgnd p b;
   taken = compared;
   failed = λ p v failed. failed || is_different v;
 }

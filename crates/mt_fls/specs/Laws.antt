@@ -2,15 +2,15 @@
 use Rattle.std.specs.Prelude.{ℕ, ◌≡◌, false, Option}
 use Rattle.mt_window.specs.Serving.{Scene, serve_due, serve_left}
 use Rattle.mt_window.specs.Events.{Running as Events, event}
-use Rattle.mt_window.specs.Waits.{WaitsAreShortIn}
+use Rattle.mt_window.specs.Waits.{ServesInTime}
 use Rattle.mt_blocks.specs.Slices.{Piece}
 use Rattle.mt_fls.specs.State.{FlsTst, IsRunning, IsInside}
 use Rattle.mt_fls.specs.Table.{Service, after, fls_table}
 use Rattle.mt_fls.specs.Event.{foreground_test}
 
 -- of each foreground test
-abbrev pub WaitsOfForegroundTests : Type 0
-WaitsOfForegroundTests = (block : ℕ) → WaitsAreShortIn (foreground_test block)
+abbrev pub ForegroundTestsServeInTime : Type 0
+ForegroundTestsServeInTime = (block : ℕ) → ServesInTime (foreground_test block)
 
 -- What handlers' calls leave of FlsTst. Setting, the last completed interval, the foreground result and the details
 -- stay. Where no Abort and no Suspend was accepted, a running pass goes on where it stood, and its interval with it.

@@ -4,3 +4,4 @@ pub mod Event
 pub mod Kept
 pub mod Laws
 pub mod Example
+pub mod Walks

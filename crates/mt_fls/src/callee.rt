@@ -5,9 +5,8 @@ use mt_port::HandlerCall;
 use mt_window::{Callee, Reply};
 
 impl Callee for Fls {
-    ghost use Rattle.std.specs.Prelude.{◌≡◌};
     ghost use Rattle.mt_port.specs.declared.request.Module.TheVariants.{FlsTst as Itself};
-    ghost use Rattle.mt_fls.specs.State.{FlsTst};
+    ghost use Rattle.mt_fls.specs.State.{FlsTst, Setting};
     ghost use Rattle.mt_fls.specs.Table.{fls_table};
     ghost use Rattle.mt_fls.specs.Kept.{handlers_leave_setting};
 
@@ -15,7 +14,9 @@ impl Callee for Fls {
 
     ghost table = { fls_table };
 
-    ghost same_setting = { λ (a : FlsTst) (b : FlsTst). b.setting ≡ a.setting };
+    ghost Setting = { Setting };
+
+    ghost setting = { λ (f : FlsTst). f.setting };
 
     #[tactic(auto, unfolding(crate::specs::Table::fls_table))]
     fn call(&mut self, call: HandlerCall) -> Reply {

@@ -1,14 +1,25 @@
 //! Laws of FlsTst.
 
-ghost use Rattle.mt_window.specs.Waits.{WaitsAreShortIn};
+ghost use Rattle.mt_window.specs.Waits.{ServesInTime};
 ghost use Rattle.mt_fls.specs.Event.{ticking};
-ghost use Rattle.mt_fls.specs.Laws.{WaitsOfForegroundTests, BoundariesMove, RequestsLeftMove, ServicesLeaveSetting};
+ghost use Rattle.mt_fls.specs.Laws.{ForegroundTestsServeInTime, BoundariesMove, RequestsLeftMove, ServicesLeaveSetting};
 
-/// Each request of a running event waits 0, or less than the length of the sequence that it meets.
+use crate::block_walk::BlockWalk;
+use crate::pass_walk::PassWalk;
+use crate::state::Fls;
+use mt_window::{requests_are_served, waits_are_short};
+
+/// Each request of a running event is served where its offset says, and waits 0 or less than the length of the attempt
+/// that it meets.
 pub fn waits_of_running_calls()
-    ensures tick { WaitsAreShortIn ticking }
-    ensures foreground { WaitsOfForegroundTests }
-{}
+    ensures tick { ServesInTime ticking }
+    ensures foreground { ForegroundTestsServeInTime }
+{
+    requests_are_served::<Fls, PassWalk>();
+    waits_are_short::<Fls, PassWalk>();
+    requests_are_served::<Fls, BlockWalk>();
+    waits_are_short::<Fls, BlockWalk>();
+}
 
 /// What handlers' calls leave of the module.
 pub fn handlers_leave_results()

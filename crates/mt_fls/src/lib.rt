@@ -1,12 +1,15 @@
 //! The module FlsTst, after AUTOSAR, Specification of Flash Test: its services, its state table, and its running calls.
 #![tactic(auto)]
 
+mod block_walk;
 mod callee;
 mod laws;
+mod pass_walk;
 mod running;
 mod services;
 mod slice;
 mod state;
+mod taken;
 
 pub use laws::{handlers_leave_results, services_leave_setting, waits_of_running_calls};
 pub use state::{Back, Fls, State};

@@ -1,17 +1,17 @@
 //! The comparison of one slice.
 
-ghost use Rattle.std.specs.Prelude.{◌≡◌, ◌<◌, ◌+◌, ◌*◌, ◌^◌, Some, false, length, All};
+ghost use Rattle.std.specs.Prelude.{◌≡◌, ◌<◌, ◌≤◌, ◌+◌, ◌*◌, ◌^◌, Some, false, length, All};
 ghost use Rattle.mt_window.specs.declared.reply.Detail.TheVariants.{Bgnd};
 ghost use Rattle.mt_port.specs.Board.{IsWithinLimits, Logs};
-ghost use Rattle.mt_seq.specs.Compare.{comparison, compare_hold, compare_touches};
-ghost use Rattle.mt_window.specs.Slices.{sequenced};
-ghost use Rattle.mt_blocks.specs.Slices.{AreSpans, IsValid, piece_at, next_of, next_in};
+ghost use Rattle.mt_seq.specs.Compare.{compare_hold};
+ghost use Rattle.mt_window.specs.Slices.{attempted};
+ghost use Rattle.mt_blocks.specs.Slices.{AreSpans, IsValid, piece_at, next_of, next_in, or_start};
 ghost use Rattle.mt_blocks.specs.Accepted.{IsAcceptedFlashBlock, flash_block_at, flash_spans};
 ghost use Rattle.mt_fls.specs.State.{bgnd_spans, fgnd_spans};
-ghost use Rattle.mt_fls.specs.Event.{copy_of, is_different, result_of, detail_after, identifier_after, completing, of_pass, of_block, passed, compared};
+ghost use Rattle.mt_fls.specs.Event.{copy_of, is_different, result_of, detail_after, identifier_after, completing, attempt_at, passed, compared};
 
 use crate::state::{Fls, State};
-use mt_blocks::{FlashBlock, Position, following, is_last, next_of_test, slice_at};
+use mt_blocks::{FlashBlock, Position, following, is_last, next_of_test, or_start, slice_at};
 use mt_port::Port;
 use mt_seq::run_compare;
 use mt_window::{Detail, TestResult};
@@ -25,7 +25,7 @@ fn copy_at(blocks: &[FlashBlock], at: Position) -> u32
     blocks[at.block as usize].copy + at.offset
 }
 
-// One sequence.
+// The sequence of a slice of these blocks.
 #[tactic(auto, unfolding(mt_seq::specs::Compare::compare_hold))]
 fn run_sequence<P: Port>(
     port: &mut P,
@@ -38,14 +38,13 @@ fn run_sequence<P: Port>(
     requires blocks { All (IsAcceptedFlashBlock (P.state port.old).shape) blocks.now }
     requires spans { AreSpans atomic (flash_spans blocks.now) }
     requires valid { IsValid atomic (flash_spans blocks.now) at }
-    requires room { (P.state port.old).count + 2 * 64 < 2 ^ 32 }
-    ensures address { result ≡ comparison (P.state port.old).flash (piece_at atomic (flash_spans blocks.now) at).slice.first (copy_of blocks.now at) (piece_at atomic (flash_spans blocks.now) at).slice.n }
-    ensures state { P.state port.new ≡ record (P.state port.old) {
-      count = (P.state port.old).count + compare_hold (piece_at atomic (flash_spans blocks.now) at).slice.n;
-      since = (P.state port.old).count;
-    } }
+    requires room { (P.state port.old).count + compare_hold (piece_at atomic (flash_spans blocks.now) at).slice.n < 2 ^ 32 }
+    ensures verdict { Some result
+        ≡ (attempt_at blocks.now (piece_at atomic (flash_spans blocks.now) at) (P.state port.old)).verdict }
+    ensures state { P.state port.new
+        ≡ attempted (attempt_at blocks.now (piece_at atomic (flash_spans blocks.now) at) (P.state port.old)) (P.state port.old) }
     ensures tape { Logs (P.tape port.old) (P.tape port.new)
-        (compare_touches (piece_at atomic (flash_spans blocks.now) at).slice.first (copy_of blocks.now at) (piece_at atomic (flash_spans blocks.now) at).slice.n) }
+        (attempt_at blocks.now (piece_at atomic (flash_spans blocks.now) at) (P.state port.old)).touches }
 {
     let slice = slice_at(blocks, atomic, at);
     let copy = copy_at(blocks, at);
@@ -89,10 +88,14 @@ impl Fls {
         requires free { (P.state port.old).held ≡ false }
         requires shape { (P.state port.old).shape ≡ self.now.setting.shape }
         requires valid { IsValid self.now.setting.config.atomic (bgnd_spans self.now) at }
-        requires room { (P.state port.old).count + 2 * 64 < 2 ^ 32 }
-        ensures verdict { result ≡ (of_pass).verdict self.now (piece_at self.now.setting.config.atomic (bgnd_spans self.now) at) (P.state port.old) }
-        ensures state { P.state port.new ≡ sequenced of_pass self.now (piece_at self.now.setting.config.atomic (bgnd_spans self.now) at) (P.state port.old) }
-        ensures tape { Logs (P.tape port.old) (P.tape port.new) ((of_pass).touches self.now (piece_at self.now.setting.config.atomic (bgnd_spans self.now) at) (P.state port.old)) }
+        requires room { (P.state port.old).count
+            + compare_hold (piece_at self.now.setting.config.atomic (bgnd_spans self.now) at).slice.n < 2 ^ 32 }
+        ensures verdict { Some result ≡ (attempt_at self.now.setting.config.bgnd
+            (piece_at self.now.setting.config.atomic (bgnd_spans self.now) at) (P.state port.old)).verdict }
+        ensures state { P.state port.new ≡ attempted (attempt_at self.now.setting.config.bgnd
+            (piece_at self.now.setting.config.atomic (bgnd_spans self.now) at) (P.state port.old)) (P.state port.old) }
+        ensures tape { Logs (P.tape port.old) (P.tape port.new) (attempt_at self.now.setting.config.bgnd
+            (piece_at self.now.setting.config.atomic (bgnd_spans self.now) at) (P.state port.old)).touches }
     {
         let config = self.config();
         run_sequence(port, config.bgnd.as_slice(), config.atomic, at)
@@ -103,10 +106,14 @@ impl Fls {
         requires free { (P.state port.old).held ≡ false }
         requires shape { (P.state port.old).shape ≡ self.now.setting.shape }
         requires valid { IsValid self.now.setting.config.atomic (fgnd_spans self.now) at }
-        requires room { (P.state port.old).count + 2 * 64 < 2 ^ 32 }
-        ensures verdict { result ≡ (of_block).verdict self.now (piece_at self.now.setting.config.atomic (fgnd_spans self.now) at) (P.state port.old) }
-        ensures state { P.state port.new ≡ sequenced of_block self.now (piece_at self.now.setting.config.atomic (fgnd_spans self.now) at) (P.state port.old) }
-        ensures tape { Logs (P.tape port.old) (P.tape port.new) ((of_block).touches self.now (piece_at self.now.setting.config.atomic (fgnd_spans self.now) at) (P.state port.old)) }
+        requires room { (P.state port.old).count
+            + compare_hold (piece_at self.now.setting.config.atomic (fgnd_spans self.now) at).slice.n < 2 ^ 32 }
+        ensures verdict { Some result ≡ (attempt_at self.now.setting.config.fgnd
+            (piece_at self.now.setting.config.atomic (fgnd_spans self.now) at) (P.state port.old)).verdict }
+        ensures state { P.state port.new ≡ attempted (attempt_at self.now.setting.config.fgnd
+            (piece_at self.now.setting.config.atomic (fgnd_spans self.now) at) (P.state port.old)) (P.state port.old) }
+        ensures tape { Logs (P.tape port.old) (P.tape port.new) (attempt_at self.now.setting.config.fgnd
+            (piece_at self.now.setting.config.atomic (fgnd_spans self.now) at) (P.state port.old)).touches }
     {
         let config = self.config();
         run_sequence(port, config.fgnd.as_slice(), config.atomic, at)
@@ -120,6 +127,14 @@ impl Fls {
     {
         let config = self.config();
         following(config.bgnd.as_slice(), config.atomic, at)
+    }
+
+    /// The position of the pass after a slice.
+    pub(crate) fn place_after(&self, at: Position) -> Position
+        requires { IsValid self.now.setting.config.atomic (bgnd_spans self.now) at }
+        ensures { result ≡ or_start (next_of self.now.setting.config.atomic (bgnd_spans self.now) at) }
+    {
+        or_start(self.next_of_pass(at))
     }
 
     // An interval is completed, and the next one begins.

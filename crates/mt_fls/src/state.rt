@@ -6,7 +6,7 @@ ghost use Rattle.mt_window.specs.declared.reply.TestResult.TheVariants.{NotTeste
 ghost use Rattle.mt_window.specs.declared.reply.Detail.TheVariants.{Nothing};
 ghost use Rattle.mt_blocks.specs.Slices.{AreSpans};
 ghost use Rattle.mt_blocks.specs.Accepted.{IsAcceptedFls, flash_spans};
-ghost use Rattle.mt_fls.specs.State.{FlsTst, IsPlace};
+ghost use Rattle.mt_fls.specs.State.{FlsTst, IsFls, IsPlace};
 
 use mt_blocks::{FlsConfig, Position};
 use mt_port::Shape;
@@ -129,5 +129,19 @@ impl Fls {
         ensures accepted { IsAcceptedFls self.new.setting.shape self.new.setting.config }
     {
         self.state = state;
+    }
+
+    /// What holds of every module. It does nothing; to look at a field lets the proof see it.
+    pub(crate) fn is_sound(&self)
+        ensures { IsFls self.now }
+    {
+        let _state = self.state;
+    }
+
+    /// A running event begins.
+    pub(crate) fn begin(&mut self)
+        ensures { self.new ≡ record self.old { mark = false } }
+    {
+        self.mark = false;
     }
 }

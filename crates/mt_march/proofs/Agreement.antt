@@ -1,6 +1,6 @@
 -- The rules on a text say the same as the accepted march.
 use Rattle.std.proofs.Common.{◌≡◌, ◌⊎◌, ℕ, ◌+◌, ◌<◌, ◌≤◌, Bool, true, false, cond, eqb, List, [], ◌∷◌, ◌++◌, length, Option, Some, None, refl, sym, ap, subst, ◌∙◌, inl, inr, arith}
-use Rattle.std.specs.Prelude.{All, not, ◌&&◌, ◌||◌, ◌==◌, is_none}
+use Rattle.std.specs.Prelude.{All, ◌↔◌, not, ◌&&◌, ◌||◌, ◌==◌, is_none}
 use Rattle.std.specs.List.{AllByRecursion}
 use Rattle.std.proofs.lemmas.Bool.{cases_eq, ne_eqb}
 use Rattle.std.proofs.lemmas.List.Elements.{All-nil, All-cons, All-tail}
@@ -12,18 +12,18 @@ use Rattle.mt_march.specs.declared.march.MarchKind.{MarchKind}
 use Rattle.mt_march.specs.declared.march.Element.{Element}
 use Rattle.mt_march.specs.declared.march.MarchKind.TheVariants.{TooLong, ReadBeforeWrite, WrongExpectation, OneValueOnly}
 use Rattle.mt_march.specs.declared.march.MarchRefusal.{MarchRefusal}
-use Rattle.mt_march.specs.Grammar.{Token, order_token, op_token, more_ops, all_ops, element_tokens, more_elements, march_tokens, IsSome, IsMarch, Spells}
-use Rattle.mt_march.specs.Rules.{first, is_order, is_letter, too_long, read_before_write, wrong_expectation, has_read, close_place}
+use Rattle.mt_march.specs.Grammar.{Token, order_token, op_token, more_ops, all_ops, element_tokens, more_elements, march_tokens, IsNonEmpty, IsMarch, Spells, SpellsMarch}
+use Rattle.mt_march.specs.Scan.{first, is_order, is_letter, too_long, read_before_write, wrong_expectation, has_read, close_place, one_value, rule_found}
 use Rattle.mt_march.specs.Value.{order_of, op_of, element, parts}
-use Rattle.mt_march.specs.Reading.{or_else, one_value, rule_broken}
+use Rattle.mt_march.specs.Rules.{or_else}
 use Rattle.mt_march.specs.Accepted.{operations, writes, begins_with_write, wrote, reads_agree, reads, IsAcceptedMarch}
-use Rattle.mt_march.specs.Laws.{AcceptedBreaksNoRule, AcceptedIsMarch}
+use Rattle.mt_march.specs.Laws.{AcceptedIsMarch}
 use Rattle.mt_march.proofs.Places.{march_read}
 use Rattle.mt_march.proofs.Room.{or_else_none, elements_after, ops_after, room_more}
 
 -- ---- a digit follows each letter
 
-abbrev HasDigits : List ℕ → Type 0
+abbrev pub HasDigits : List ℕ → Type 0
 HasDigits [] = Unit {0}
 HasDigits (b ∷ bs) = (is_letter b ≡ true → (first bs ≡ 48) ⊎ (first bs ≡ 49)) × HasDigits bs
 
@@ -76,6 +76,9 @@ spelled_digits [] text k h = spaces_alone text h
 spelled_digits (token ∷ tokens) text k h =
     subst HasDigits (sym h.3) (spaces_keep h.0 h.2 (token ++ h.1) (k.0 h.1 (spelled_digits tokens h.1 k.1 h.4)))
 
+pub text_has_digits : (text : List ℕ) (es : List Element) → SpellsMarch text es → HasDigits text
+text_has_digits text es h = spelled_digits (march_tokens es) text (march_keep es) h.1
+
 -- ---- the rules of reads
 
 abbrev flat : List Op × List Element → List Op
@@ -87,7 +90,7 @@ begins_well [] = true
 begins_well (op ∷ ops) = writes op
 
 -- the digit that was written, and 0 where none was
-abbrev written_of : Option Bool → ℕ
+abbrev pub written_of : Option Bool → ℕ
 written_of None = 0
 written_of (Some false) = 48
 written_of (Some true) = 49
@@ -278,8 +281,8 @@ record Kept (text : List ℕ) : Type 0 where
   zeros : has_read 48 text ≡ true
   ones : has_read 49 text ≡ true
 
-rules_kept : (text : List ℕ) → rule_broken text ≡ None → Kept text
-unfolding rule_broken
+rules_kept : (text : List ℕ) → rule_found text ≡ None → Kept text
+unfolding rule_found
 rules_kept text h =
     let h1 = or_else_later (too_long 1 0 0 text) _ TooLong h in
     let h2 = or_else_later (read_before_write 1 text) _ ReadBeforeWrite h1 in
@@ -293,19 +296,19 @@ rules_kept text h =
       ones = both.1;
     }
 
-kept_rules : (text : List ℕ) → Kept text → rule_broken text ≡ None
-unfolding rule_broken
+kept_rules : (text : List ℕ) → Kept text → rule_found text ≡ None
+unfolding rule_found
 kept_rules text k =
     let last : one_value text ≡ None = no_value_missing (has_read 48 text) (has_read 49 text) (close_place 1 text) k.zeros k.ones in
     rw (k.long, k.begins, k.agree) (ap (λ (o : Option ℕ). or_else o OneValueOnly None) last)
 
-short_of : (es : List Element) → AllByRecursion (λ e. IsSome e.ops.items) es → All (λ (e : Element). length e.ops.items ≤ 8) es → All (λ (e : Element). (1 ≤ length e.ops.items) × (length e.ops.items ≤ 8)) es
+short_of : (es : List Element) → AllByRecursion (λ e. IsNonEmpty e.ops.items) es → All (λ (e : Element). length e.ops.items ≤ 8) es → All (λ (e : Element). (1 ≤ length e.ops.items) × (length e.ops.items ≤ 8)) es
 short_of [] some all = All-nil (λ (e : Element). (1 ≤ length e.ops.items) × (length e.ops.items ≤ 8))
 short_of (e ∷ es) some all =
     All-cons (λ (e : Element). (1 ≤ length e.ops.items) × (length e.ops.items ≤ 8)) e es
     (some_ops e.ops.items some.0, all 0 e (omega arith)) (short_of es some.1 (All-tail (λ (e : Element). length e.ops.items ≤ 8) e es all))
   where
-    some_ops : (ops : List Op) → IsSome ops → 1 ≤ length ops
+    some_ops : (ops : List Op) → IsNonEmpty ops → 1 ≤ length ops
     some_ops [] h = absurd h
     some_ops (op ∷ ops) h = omega arith
 
@@ -313,7 +316,7 @@ written_first : (es : List Element) → IsMarch es → begins_well (operations e
 written_first [] is h = absurd is.0
 written_first (e ∷ es) is h = first_of e.ops.items is.1.0 h
   where
-    first_of : (ops : List Op) → IsSome ops → begins_well (ops ++ operations es) ≡ true → begins_with_write (ops ++ operations es) ≡ true
+    first_of : (ops : List Op) → IsNonEmpty ops → begins_well (ops ++ operations es) ≡ true → begins_with_write (ops ++ operations es) ≡ true
     first_of [] some k = absurd some
     first_of (op ∷ ops) some k = k
 
@@ -321,7 +324,7 @@ well_begun : (ops : List Op) → begins_with_write ops ≡ true → begins_well 
 well_begun [] h = refl
 well_begun (op ∷ ops) h = h
 
-some_elements : (es : List Element) → IsSome es → 1 ≤ length es
+some_elements : (es : List Element) → IsNonEmpty es → 1 ≤ length es
 some_elements [] h = absurd h
 some_elements (e ∷ es) h = omega arith
 
@@ -354,20 +357,21 @@ kept_from text es at digits a =
       ones = s.ones ∙ a.ones;
     }
 
-pub accepted_breaks_no_rule : AcceptedBreaksNoRule
-accepted_breaks_no_rule text es h =
+-- a rule is found exactly where the march is no accepted one
+pub accepted_has_no_rule : (text : List ℕ) (es : List Element) → SpellsMarch text es → (rule_found text ≡ None) ↔ IsAcceptedMarch es
+accepted_has_no_rule text es h =
     let at = (march_read es text h).1 in
-    let digits = spelled_digits (march_tokens es) text (march_keep es) h.1 in
+    let digits = text_has_digits text es h in
     (λ none. accepted_from text es h.0 at digits (rules_kept text none), λ a. kept_rules text (kept_from text es at digits a))
 
 pub accepted_is_march : AcceptedIsMarch
 accepted_is_march [] a = absurd (omega (arith, a.some))
 accepted_is_march (e ∷ es) a = (tt, all_some (e ∷ es) a.short)
   where
-    some_of : (ops : List Op) → 1 ≤ length ops → IsSome ops
+    some_of : (ops : List Op) → 1 ≤ length ops → IsNonEmpty ops
     some_of [] h = absurd (omega arith)
     some_of (op ∷ ops) h = tt
 
-    all_some : (es : List Element) → All (λ (e : Element). (1 ≤ length e.ops.items) × (length e.ops.items ≤ 8)) es → AllByRecursion (λ e. IsSome e.ops.items) es
+    all_some : (es : List Element) → All (λ (e : Element). (1 ≤ length e.ops.items) × (length e.ops.items ≤ 8)) es → AllByRecursion (λ e. IsNonEmpty e.ops.items) es
     all_some [] all = tt
     all_some (e ∷ es) all = (some_of e.ops.items (all 0 e (omega arith)).0, all_some es (All-tail (λ (e : Element). (1 ≤ length e.ops.items) × (length e.ops.items ≤ 8)) e es all))

@@ -10,7 +10,7 @@ use Rattle.mt_march.specs.declared.march.Order.TheVariants.{Up, Down, Either}
 use Rattle.mt_march.specs.declared.march.Element.{Element}
 use Rattle.mt_march.specs.declared.spelling.Expects.{Expects}
 use Rattle.mt_march.specs.declared.spelling.Expects.TheVariants.{Brace, Direction, Parenthesis, Letter, Digit, Comma, Semicolon, Nothing}
-use Rattle.mt_march.specs.Grammar.{Token, order_token, op_token, more_ops, all_ops, element_tokens, more_elements, IsSome, Spells, SpellsMarch, IsText, Begins, IsSpellingPlace}
+use Rattle.mt_march.specs.Grammar.{Token, order_token, op_token, more_ops, all_ops, element_tokens, more_elements, IsNonEmpty, Spells, SpellsMarch, IsText, Begins, IsSpellingPlace}
 use Rattle.mt_march.specs.Machine.{next, fault, fault_at_end, goes_on}
 use Rattle.mt_march.specs.Value.{element, parts}
 use Rattle.mt_march.proofs.Spelled.{run, run_from_fault, claim}
@@ -19,7 +19,7 @@ abbrev AreSpaces : List ℕ → Type 0
 AreSpaces = AllByRecursion (λ byte. byte ≡ 32)
 
 abbrev AreElements : List Element → Type 0
-AreElements = AllByRecursion (λ e. IsSome e.ops.items)
+AreElements = AllByRecursion (λ e. IsNonEmpty e.ops.items)
 
 -- spaces may stand here
 abbrev Skips : Expects → Type 0
@@ -96,7 +96,7 @@ more_ops_read (op ∷ ops) es tokens more text h =
     let k = op_read op ops es (more_ops ops tokens) t.rest (more_ops_read ops es tokens more) t.spelled in
     (t.runs ∙ k.0, t.has ∙ k.1)
 
-all_ops_read : (ops : List Op) (es : List Element) (tokens : List Token) (text : List ℕ) → IsSome ops → ((rest : List ℕ) → Spells rest tokens → Reads Semicolon rest [] es) → Spells text (all_ops ops tokens) → Reads Letter text ops es
+all_ops_read : (ops : List Op) (es : List Element) (tokens : List Token) (text : List ℕ) → IsNonEmpty ops → ((rest : List ℕ) → Spells rest tokens → Reads Semicolon rest [] es) → Spells text (all_ops ops tokens) → Reads Letter text ops es
 all_ops_read [] es tokens text some more h = absurd some
 all_ops_read (op ∷ ops) es tokens text some more h = op_read op ops es (more_ops ops tokens) text (more_ops_read ops es tokens more) h
 
@@ -110,7 +110,7 @@ order_parts Up rest = refl
 order_parts Down rest = refl
 order_parts Either rest = refl
 
-element_read : (e : Element) (es : List Element) (text : List ℕ) → IsSome e.ops.items → ((rest : List ℕ) → Spells rest (more_elements es) → Reads Semicolon rest [] es) → Spells text (element_tokens e (more_elements es)) → Reads Direction text [] (e ∷ es)
+element_read : (e : Element) (es : List Element) (text : List ℕ) → IsNonEmpty e.ops.items → ((rest : List ℕ) → Spells rest (more_elements es) → Reads Semicolon rest [] es) → Spells text (element_tokens e (more_elements es)) → Reads Direction text [] (e ∷ es)
 element_read e es text some more h =
     let t = token_at Direction (order_token e.order) (codes "(" ∷ all_ops e.ops.items (more_elements es)) text tt h in
     let u = token_at Parenthesis (codes "(") (all_ops e.ops.items (more_elements es)) t.rest tt t.spelled in

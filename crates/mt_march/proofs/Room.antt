@@ -3,8 +3,8 @@ use Rattle.std.proofs.Common.{◌≡◌, ℕ, ◌+◌, ◌≤◌, Bool, true, fa
 use Rattle.std.proofs.lemmas.Bool.Decides.{nat_tests}
 use Rattle.mt_march.specs.declared.march.MarchKind.{MarchKind}
 use Rattle.mt_march.specs.declared.march.MarchRefusal.{MarchRefusal}
-use Rattle.mt_march.specs.Rules.{too_long, is_order, is_letter}
-use Rattle.mt_march.specs.Reading.{or_else}
+use Rattle.mt_march.specs.Scan.{too_long, is_order, is_letter}
+use Rattle.mt_march.specs.Rules.{or_else}
 
 pub or_else_none : (o : Option ℕ) (kind : MarchKind) (later : Option MarchRefusal) → or_else o kind later ≡ None → o ≡ None
 or_else_none None kind later h = refl

@@ -7,9 +7,9 @@ use Rattle.mt_march.specs.declared.march.Op.{Op}
 use Rattle.mt_march.specs.declared.march.Element.{Element}
 use Rattle.mt_march.specs.declared.spelling.Expects.{Expects}
 use Rattle.mt_march.specs.declared.spelling.Expects.TheVariants.{Brace, Direction, Parenthesis, Letter, Digit, Comma, Semicolon, Nothing}
-use Rattle.mt_march.specs.Grammar.{Token, op_token, more_ops, all_ops, element_tokens, more_elements, IsSome, IsMarch, Spells, SpellsMarch}
+use Rattle.mt_march.specs.Grammar.{Token, op_token, more_ops, all_ops, element_tokens, more_elements, IsNonEmpty, IsMarch, Spells, SpellsMarch}
 use Rattle.mt_march.specs.Machine.{next, fault, fault_at_end, goes_on}
-use Rattle.mt_march.specs.Rules.{first}
+use Rattle.mt_march.specs.Scan.{first}
 use Rattle.mt_march.specs.Value.{op_of, parts}
 
 abbrev pub run : Expects → List ℕ → Option Expects
@@ -56,14 +56,14 @@ direction_tokens [] = []
 direction_tokens (e ∷ es) = element_tokens e (more_elements es)
 
 abbrev AreElements : List Element → Type 0
-AreElements = AllByRecursion (λ e. IsSome e.ops.items)
+AreElements = AllByRecursion (λ e. IsNonEmpty e.ops.items)
 
 -- what is left spells the rest of a march
 abbrev Claim : Expects → List ℕ → List Op → List Element → Type 0
 Claim Brace text ops es = (ops ≡ []) × SpellsMarch text es
 Claim Direction text ops es = (ops ≡ []) × IsMarch es × Spells text (direction_tokens es)
-Claim Parenthesis text ops es = IsSome ops × AreElements es × Spells text (codes "(" ∷ all_ops ops (more_elements es))
-Claim Letter text ops es = IsSome ops × AreElements es × Spells text (all_ops ops (more_elements es))
+Claim Parenthesis text ops es = IsNonEmpty ops × AreElements es × Spells text (codes "(" ∷ all_ops ops (more_elements es))
+Claim Letter text ops es = IsNonEmpty ops × AreElements es × Spells text (all_ops ops (more_elements es))
 Claim Digit text ops es = AreElements es × ((letter : ℕ) → (letter ≡ 114) ⊎ (letter ≡ 119) → Spells (letter ∷ text) (op_token (op_of letter (first text)) ∷ more_ops ops (more_elements es)))
 Claim Comma text ops es = AreElements es × Spells text (more_ops ops (more_elements es))
 Claim Semicolon text ops es = (ops ≡ []) × AreElements es × Spells text (more_elements es)

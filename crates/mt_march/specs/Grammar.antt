@@ -44,12 +44,12 @@ march_tokens [] = []
 march_tokens (e ∷ es) = codes "{" ∷ element_tokens e (more_elements es)
 
 -- there are elements, and each has operations
-abbrev pub IsSome : {A : Type 0} → List A → Type 0
-IsSome [] = ⊥
-IsSome (x ∷ xs) = Unit {0}
+abbrev pub IsNonEmpty : {A : Type 0} → List A → Type 0
+IsNonEmpty [] = ⊥
+IsNonEmpty (x ∷ xs) = Unit {0}
 
 abbrev pub IsMarch : List Element → Type 0
-IsMarch es = IsSome es × AllByRecursion (λ e. IsSome e.ops.items) es
+IsMarch es = IsNonEmpty es × AllByRecursion (λ e. IsNonEmpty e.ops.items) es
 
 -- the text is these tokens, with any spaces before and after each
 abbrev pub Spells : List ℕ → List Token → Type 0

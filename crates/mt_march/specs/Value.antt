@@ -5,7 +5,7 @@ use Rattle.mt_march.specs.declared.march.Order.TheVariants.{Up, Down, Either}
 use Rattle.mt_march.specs.declared.march.Op.{Op}
 use Rattle.mt_march.specs.declared.march.Op.TheVariants.{R0, R1, W0, W1}
 use Rattle.mt_march.specs.declared.march.Element.{Element}
-use Rattle.mt_march.specs.Rules.{first, is_order, is_letter}
+use Rattle.mt_march.specs.Scan.{first, is_order, is_letter}
 
 abbrev pub order_of : ℕ → Order
 order_of b = if b == 117 then Up else (if b == 100 then Down else Either)

@@ -1,8 +1,8 @@
 //! Laws of marches and their texts.
 
-ghost use Rattle.mt_march.specs.Laws.{AcceptedBreaksNoRule, AcceptedIsMarch, CanonicalSpells, SpellsOne};
+ghost use Rattle.mt_march.specs.Laws.{AcceptedBreaksNoRule, AcceptedIsMarch, CanonicalSpells, SpellsOne, PlacedIsSpelled, SpelledHasPlaces, PlacesAreOne, RefusalIsOfText, UnrefusedIsMarch};
 
-/// A text breaks no rule exactly where its march is an accepted one, which has a text.
+/// The march of a text breaks no rule exactly where it is an accepted one, which has a text.
 pub fn accepted_breaks_no_rule()
     ensures rules { AcceptedBreaksNoRule }
     ensures march { AcceptedIsMarch }
@@ -12,4 +12,17 @@ pub fn accepted_breaks_no_rule()
 pub fn canonical_spells()
     ensures spells { CanonicalSpells }
     ensures one { SpellsOne }
+{}
+
+/// The march of a text has its elements, its operations and its closing brace at one place each.
+pub fn marches_have_places()
+    ensures spelled { PlacedIsSpelled }
+    ensures placed { SpelledHasPlaces }
+    ensures one { PlacesAreOne }
+{}
+
+/// The refusal of a text, as a function, is the one that refuses it; a text without one spells an accepted march.
+pub fn refusals_are_of_texts()
+    ensures refused { RefusalIsOfText }
+    ensures unrefused { UnrefusedIsMarch }
 {}

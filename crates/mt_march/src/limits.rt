@@ -1,7 +1,7 @@
 //! The rules on a text of the grammar.
 
 ghost use Rattle.std.specs.Prelude.{◌≡◌, ◌<◌, length};
-ghost use Rattle.mt_march.specs.Rules.{too_long, read_before_write, wrong_expectation, has_read, close_place, first};
+ghost use Rattle.mt_march.specs.Scan.{too_long, read_before_write, wrong_expectation, has_read, close_place, first};
 
 /// The byte after this one, and 0 at the end.
 pub fn first(text: &[u8]) -> u8

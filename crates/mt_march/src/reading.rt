@@ -2,12 +2,12 @@
 
 ghost use Rattle.std.specs.Prelude.{◌≡◌, ◌<◌, ◌≤◌, ◌+◌, true, false, if◌then◌else◌, List, [], ◌∷◌, length, IfOk, IfErr, IfSome, IfNone, None, Some};
 ghost use Rattle.mt_march.specs.Grammar.{SpellsMarch};
-ghost use Rattle.mt_march.specs.Rules.{too_long, first, is_order, is_letter};
+ghost use Rattle.mt_march.specs.Scan.{too_long, first, is_order, is_letter, rule_found};
 ghost use Rattle.mt_march.specs.Value.{march_of, op_of, order_of, element, put};
 ghost use Rattle.mt_march.specs.Building.{element_count, finished};
 ghost use Rattle.mt_march.specs.declared.march.Element.{Element};
 ghost use Rattle.mt_march.specs.declared.march.Op.{Op};
-ghost use Rattle.mt_march.specs.Reading.{rule_broken, Refuses};
+ghost use Rattle.mt_march.specs.Reading.{Refuses, march_refusal};
 ghost use Rattle.mt_march.specs.Accepted.{IsAcceptedMarch};
 
 use crate::limits::{close_place, first, has_read, read_before_write, too_long, wrong_expectation};
@@ -123,10 +123,10 @@ fn refusal(kind: MarchKind, place: u32) -> MarchRefusal
 }
 
 /// The first of the rules on a text of the grammar that is broken.
-#[tactic(auto, unfolding(crate::specs::Reading::rule_broken))]
+#[tactic(auto, unfolding(crate::specs::Scan::rule_found))]
 fn rule_broken(text: &[u8]) -> Option<MarchRefusal>
     requires { length text.now < 65537 }
-    ensures { result ≡ rule_broken text.now }
+    ensures { result ≡ rule_found text.now }
 {
     if let Some(place) = too_long(text) {
         return Some(refusal(MarchKind::TooLong, place));
@@ -146,12 +146,15 @@ fn rule_broken(text: &[u8]) -> Option<MarchRefusal>
 /// Reads a march, or answers the least rule that is broken with its place.
 pub fn read_march(text: &[u8]) -> Result<March, MarchRefusal>
     requires { length text.now < 65537 }
-    // What is read is spelled so, and breaks no rule.
-    ensures ok { IfOk result (λ march. SpellsMarch text.now march.elements.items × (rule_broken text.now ≡ None)) }
-    // So it is an accepted march.
+    ensures ok { IfOk result (λ march. SpellsMarch text.now march.elements.items) }
     ensures accepted { IfOk result (λ march. IsAcceptedMarch march.elements.items) }
     // A refusal is that of the least broken rule, at its place.
     ensures err { IfErr result (λ refusal. Refuses text.now refusal) }
+
+    // The same as functions of the text.
+    ensures value { IfOk result (λ march. march.elements.items ≡ march_of text.now) }
+    ensures unrefused { IfOk result (λ _. march_refusal text.now ≡ None) }
+    ensures refused { IfErr result (λ refusal. march_refusal text.now ≡ Some refusal) }
 {
     if let Some(place) = spelling_fault(text) {
         return Err(MarchRefusal {

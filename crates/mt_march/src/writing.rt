@@ -1,7 +1,7 @@
 //! The canonical text.
 
 ghost use Rattle.std.specs.Prelude.{◌≡◌, ◌<◌, ◌≤◌, ◌+◌, ◌*◌, List, [], ◌∷◌, ◌++◌, length};
-ghost use Rattle.mt_march.specs.Grammar.{Token, op_token, order_token, all_ops, element_tokens, more_elements, IsSome, IsMarch};
+ghost use Rattle.mt_march.specs.Grammar.{Token, op_token, order_token, all_ops, element_tokens, more_elements, IsNonEmpty, IsMarch};
 ghost use Rattle.mt_march.specs.declared.march.Element.{Element};
 ghost use Rattle.mt_march.specs.Canonical.{text_of, canonical};
 
@@ -46,7 +46,7 @@ fn push_order(out: &mut Text, order: Order)
 
 /// Appends the operations and the closing parenthesis.
 fn push_ops(out: &mut Text, ops: &[Op])
-    requires some { IsSome ops.now }
+    requires some { IsNonEmpty ops.now }
     requires few { length ops.now ≤ 8 }
     requires room { length out.old.items + 24 ≤ 448 }
     ensures text { (tokens : List Token) → out.new.items ++ text_of tokens ≡ out.old.items ++ text_of (all_ops ops.now tokens) }
@@ -63,7 +63,7 @@ fn push_ops(out: &mut Text, ops: &[Op])
 }
 
 fn push_element(out: &mut Text, element: &Element)
-    requires some { IsSome element.now.ops.items }
+    requires some { IsNonEmpty element.now.ops.items }
     requires room { length out.old.items + 26 ≤ 448 }
     ensures text { (tokens : List Token) → out.new.items ++ text_of tokens ≡ out.old.items ++ text_of (element_tokens element.now tokens) }
     ensures len { length out.new.items ≤ length out.old.items + 26 }

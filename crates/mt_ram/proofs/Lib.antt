@@ -2,4 +2,5 @@ pub mod Moves
 pub mod Sets
 pub mod Settings
 pub mod Walks
+pub mod Drops
 pub mod Marks

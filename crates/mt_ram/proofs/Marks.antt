@@ -1,42 +1,20 @@
--- What the mark stops, and when attempts are dropped in time.
+-- What the mark of a tick stops.
 use Rattle.std.proofs.Common.{ℕ, zero, suc, ◌≡◌, Bool, true, false, cond, List, [], ◌∷◌, Option, Some, None, refl, sym, ap, ◌∙◌, arith}
 use Rattle.std.specs.Prelude.{is_some}
-use Rattle.mt_plan.specs.declared.algorithm.Policy.{Policy}
-use Rattle.mt_plan.specs.declared.algorithm.Policy.TheVariants.{NonDestructive, Destructive}
-use Rattle.mt_seq.specs.Laws.{UrgentWaitsAreShort}
 use Rattle.mt_seq.specs.declared.sequence.Verdict.{Verdict}
 use Rattle.mt_window.specs.Serving.{Scene, scene}
 use Rattle.mt_window.specs.Slices.{Trail, started, taken_by, next_attempt, scene_behind, after_attempt, tried, slices}
 use Rattle.mt_window.specs.Events.{entered}
 use Rattle.mt_window.specs.Rows.{work_in, inside_of}
-use Rattle.mt_window.specs.Waits.{DropsInTime}
 use Rattle.mt_window.specs.Kept.{slices-stopped, slices-keeps}
 use Rattle.mt_blocks.specs.Slices.{Piece}
 use Rattle.mt_ram.specs.declared.state.State.{State}
 use Rattle.mt_ram.specs.declared.state.State.TheVariants.{Uninit, Stopped, Running, Suspended, Full, Partial}
 use Rattle.mt_ram.specs.State.{RamTst, IsRunning}
 use Rattle.mt_ram.specs.Table.{MainFunction, cell, group_at}
-use Rattle.mt_ram.specs.Event.{job_of, restored, of_pass, of_test, ticking}
+use Rattle.mt_ram.specs.Event.{of_pass, ticking}
 use Rattle.mt_ram.specs.Laws.{unstopped, TicksRest, TicksEndTheirGroup}
 use Rattle.mt_ram.proofs.Moves.{boundaries_move}
-
--- ---- attempts drop in time
-
-restored_is : (p : Policy) (m n : ℕ) → restored p m ≡ Some n → (p ≡ NonDestructive) × (m ≡ n)
-restored_is NonDestructive m n e = (refl, cc)
-restored_is Destructive m n e = cc
-
-pub pass_drops : UrgentWaitsAreShort → DropsInTime of_pass
-pass_drops time c x b n e late = λ k d low urgent.
-    (let is = restored_is (job_of c x).policy x.slice.n n e in
-    let soon = time b (job_of c x) x.slice is.0 (λ i q h u. late i q h) k d low urgent in
-    omega (arith, soon, is.1))
-
-pub test_drops : UrgentWaitsAreShort → DropsInTime of_test
-test_drops time c x b n e late = λ k d low urgent.
-    (let is = restored_is (job_of c x).policy x.slice.n n e in
-    let soon = time b (job_of c x) x.slice is.0 (λ i q h u. late i q h) k d low urgent in
-    omega (arith, soon, is.1))
 
 -- ---- a tick whose mark is set
 

@@ -10,10 +10,6 @@ use Rattle.mt_blocks.specs.declared.config.Block.{Block}
 use Rattle.mt_blocks.specs.declared.config.ParamSet.{ParamSet}
 use Rattle.mt_blocks.specs.Slices.{AreSpans, IsValid, span_at, no_span}
 use Rattle.mt_blocks.specs.Accepted.{IsAcceptedBlock, IsAcceptedSet, block_at, no_block, no_set, spans_of}
-use Rattle.std.specs.Prelude.{is_some}
-use Rattle.mt_port.specs.Board.{Board}
-use Rattle.mt_seq.specs.Attempts.{attempt_verdict, dropped_at}
-use Rattle.mt_seq.specs.declared.sequence.Slice.{Slice}
 use Rattle.mt_seq.specs.declared.sequence.Job.{Job}
 use Rattle.mt_seq.specs.Sequence.{sequence_hold}
 use Rattle.mt_seq.specs.Laws.{SequencesAreShort}
@@ -56,11 +52,6 @@ sound_job shape set at ok valid =
 -- the selected set is an accepted one
 pub accepted_set : (r : RamTst) → IsRam r → IsAcceptedSet r.setting.shape (set_of r)
 accepted_set r ok = ok.accepted.sets r.selected no_set ok.selected
-
--- an attempt that may not be dropped has a verdict
-pub unasked : (b : Board) (job : Job) (slice : Slice) → is_some (attempt_verdict false b job slice) ≡ true
-unfolding attempt_verdict dropped_at
-unasked b job slice = refl
 
 pub hold_small : SequencesAreShort → (job : Job) (n : ℕ) → IsAccepted job.alg → n ≤ 64 → sequence_hold job n ≤ 262 * 64
 hold_small short job n accepted small = omega (arith, short job n accepted small, small)

@@ -6,7 +6,7 @@ use Rattle.mt_window.specs.Serving.{Scene, serve_due, serve_left}
 use Rattle.mt_window.specs.Slices.{Tests, slices}
 use Rattle.mt_window.specs.Rows.{work_in}
 use Rattle.mt_window.specs.Events.{Running as Events, entered, ran, event}
-use Rattle.mt_window.specs.Waits.{WaitsAreShortIn, UrgentWaitsAreShortIn}
+use Rattle.mt_window.specs.Waits.{ServesInTime}
 use Rattle.mt_seq.specs.declared.sequence.Verdict.{Verdict}
 use Rattle.mt_blocks.specs.Slices.{Piece}
 use Rattle.mt_ram.specs.State.{RamTst, set_of, IsRunning, IsInside}
@@ -14,11 +14,8 @@ use Rattle.mt_ram.specs.Table.{Service, MainFunction, row, after, ram_table}
 use Rattle.mt_ram.specs.Event.{attempt_at, of_pass, ticking, partial_test}
 
 -- of each partial test
-abbrev pub WaitsOfPartialTests : Type 0
-WaitsOfPartialTests = (block : ℕ) → WaitsAreShortIn (partial_test block)
-
-abbrev pub UrgentWaitsOfPartialTests : Type 0
-UrgentWaitsOfPartialTests = (block : ℕ) → UrgentWaitsAreShortIn (partial_test block)
+abbrev pub PartialTestsServeInTime : Type 0
+PartialTestsServeInTime = (block : ℕ) → ServesInTime (partial_test block)
 
 -- on a board without a fault an attempt that is dropped leaves the words as they were
 abbrev pub DroppedAttemptsLeaveWords : Type 0

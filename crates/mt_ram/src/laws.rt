@@ -1,33 +1,26 @@
 //! Laws of RamTst.
 
 ghost use Rattle.mt_ram.specs.Event.{ticking, full_test};
-ghost use Rattle.mt_window.specs.Waits.{WaitsAreShortIn, UrgentWaitsAreShortIn};
-ghost use Rattle.mt_ram.specs.Laws.{WaitsOfPartialTests, UrgentWaitsOfPartialTests, DroppedAttemptsLeaveWords, TicksRest, TicksEndTheirGroup, BoundariesMove, RequestsLeftMove, ServicesLeaveSetting};
+ghost use Rattle.mt_window.specs.Waits.{ServesInTime};
+ghost use Rattle.mt_ram.specs.Laws.{PartialTestsServeInTime, DroppedAttemptsLeaveWords, TicksRest, TicksEndTheirGroup, BoundariesMove, RequestsLeftMove, ServicesLeaveSetting};
 
 use crate::pass_walk::PassWalk;
 use crate::state::Ram;
 use crate::test_walk::TestWalk;
 use mt_seq::{attempts_on_sound_memory, urgent_requests_wait_shortly};
-use mt_window::waits_are_short;
+use mt_window::{requests_are_served, waits_are_short};
 
-/// Each request of a running event waits 0, or less than the length of the sequence that it meets.
+/// Each request of a running event is served where its offset says, and waits 0 or less than the length of the attempt
+/// that it meets. An urgent one that meets an attempt which might be dropped waits at most the words of the slice.
 pub fn waits_of_running_calls()
-    ensures tick { WaitsAreShortIn ticking }
-    ensures full { WaitsAreShortIn full_test }
-    ensures partial { WaitsOfPartialTests }
-{
-    waits_are_short::<Ram, PassWalk>();
-    waits_are_short::<Ram, TestWalk>();
-}
-
-/// An urgent request that meets an attempt which might be dropped waits at most the words that this attempt writes back.
-pub fn urgent_waits_of_running_calls()
-    ensures tick { UrgentWaitsAreShortIn ticking }
-    ensures full { UrgentWaitsAreShortIn full_test }
-    ensures partial { UrgentWaitsOfPartialTests }
+    ensures tick { ServesInTime ticking }
+    ensures full { ServesInTime full_test }
+    ensures partial { PartialTestsServeInTime }
 {
     urgent_requests_wait_shortly();
+    requests_are_served::<Ram, PassWalk>();
     waits_are_short::<Ram, PassWalk>();
+    requests_are_served::<Ram, TestWalk>();
     waits_are_short::<Ram, TestWalk>();
 }
 

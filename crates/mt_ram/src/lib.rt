@@ -13,7 +13,7 @@ mod test_walk;
 
 pub use laws::{
     dropped_attempts_leave_words, handlers_leave_results, services_leave_setting, ticks_end_by_the_mark,
-    urgent_waits_of_running_calls, waits_of_running_calls,
+    waits_of_running_calls,
 };
 pub use state::{Ram, State};
 

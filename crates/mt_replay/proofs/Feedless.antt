@@ -24,6 +24,7 @@ use Rattle.mt_text.specs.declared.line.FlsCall.TheVariants as fls
 use Rattle.mt_text.specs.declared.line.Event.{Event}
 use Rattle.mt_text.specs.declared.line.Event.TheVariants.{Nothing, Ram, Fls, TickRam, TickFls, App, Inject, Heal, Burn, Flip}
 use Rattle.mt_text.specs.declared.line.Line.{Line}
+use Rattle.mt_text.specs.Forms.{mark_byte}
 use Rattle.mt_text.specs.Digits.{digit_byte, hex_text, word_text}
 use Rattle.mt_text.specs.Canonical.{ram_words, fls_words, app_words, spot_text, bit_text, direction_text, wiring_text, fault_words, event_words, call_words, op_words, Piece, shown, text_of, spaced_words, words, further_ops, handler_pieces, request_pieces, requests_pieces, canonical}
 use Rattle.mt_replay.specs.Input.{HasNoFeed}
@@ -209,9 +210,13 @@ handler_feedless : (width : Width) (ops : List HandlerOp) → ArePieces (handler
 handler_feedless width [] = tt
 handler_feedless width (o ∷ ops) = (refl, pieces-append (words false (op_words width o)) (further_ops width ops) (words_feedless false (op_words width o) (op_feedless width o)) (further_feedless width ops))
 
+mark_feedless : (urgent : Bool) (n : ℕ) → feedless (mark_byte urgent ∷ decimal n) ≡ true
+mark_feedless true n = decimal_feedless n
+mark_feedless false n = decimal_feedless n
+
 requests_feedless : (width : Width) (rs : List Request) → ArePieces (requests_pieces width rs)
 requests_feedless width [] = tt
-requests_feedless width (r ∷ rs) = pieces-append (request_pieces width r) (requests_pieces width rs) (decimal_feedless r.offset, handler_feedless width r.ops.items) (requests_feedless width rs)
+requests_feedless width (r ∷ rs) = pieces-append (request_pieces width r) (requests_pieces width rs) (mark_feedless r.urgent r.offset, handler_feedless width r.ops.items) (requests_feedless width rs)
 
 shown_feedless : (spaced : Bool) (bytes : List ℕ) → feedless bytes ≡ true → feedless (shown spaced bytes) ≡ true
 shown_feedless true bytes h = h

@@ -1,7 +1,7 @@
--- No request of a replay waits as long as the sequence that it meets.
-use Rattle.std.proofs.Common.{ℕ, ◌+◌, ◌≡◌, Bool, true, false, cond, List, [], ◌∷◌, ◌++◌, length, All, Option, Some, None, Result, Ok, Err, refl, sym, ap, ◌∙◌, arith, append_assoc}
+-- The requests of a replay are served in time.
+use Rattle.std.proofs.Common.{ℕ, ◌+◌, ◌≡◌, Bool, true, false, cond, List, [], ◌∷◌, ◌++◌, length, All, Option, Some, None, Result, Ok, Err, refl, sym, ap, ◌∙◌, arith, append_assoc, append_nil}
 use Rattle.std.specs.Prelude.{nat_lt, is_some, IfOk}
-use Rattle.std.proofs.lemmas.List.Elements.{All-push, All-cons}
+use Rattle.std.proofs.lemmas.List.Elements.{All-push, All-cons, filter-append}
 use Rattle.mt_port.specs.declared.board.Shape.{Shape}
 use Rattle.mt_port.specs.declared.request.Request.{Request}
 use Rattle.mt_port.specs.Board.{Board, AreOrdered, injected}
@@ -19,13 +19,12 @@ use Rattle.mt_window.specs.declared.reply.Reply.TheVariants as replies
 use Rattle.mt_window.specs.declared.log.Entry.TheVariants.{Own}
 use Rattle.mt_window.specs.Events.{Running as Events, event as event_of, event_attempts}
 use Rattle.mt_window.specs.Slices.{Attempt}
-use Rattle.mt_window.specs.Waits.{IsShort}
-use Rattle.mt_window.proofs.Waits.{event-waits}
+use Rattle.mt_window.specs.Waits.{IsFresh, is_service, services, IsShort, ServesInTime as CallServes}
 use Rattle.mt_conf.specs.declared.config.Config.{Config}
 use Rattle.mt_conf.specs.declared.config.ConfigRefusal.{ConfigRefusal}
 use Rattle.mt_conf.specs.Outcome.{outcome as config_of}
 use Rattle.mt_replay.specs.declared.event.Running.{Running}
-use Rattle.mt_replay.specs.declared.event.Running.TheVariants as calls
+use Rattle.mt_replay.specs.declared.event.Running.TheVariants as rams
 use Rattle.mt_replay.specs.declared.event.FlsRunning.{FlsRunning}
 use Rattle.mt_replay.specs.declared.event.FlsRunning.TheVariants as fls_calls
 use Rattle.mt_ram.specs.Table.{MainFunction}
@@ -34,83 +33,94 @@ use Rattle.mt_replay.specs.declared.form.Form.TheVariants as forms
 use Rattle.mt_replay.specs.Input.{Ending, Finished, Failed, Cut, Job, Parted, Whole, job_of}
 use Rattle.mt_replay.specs.Machine.{Machine, Step, with_ram, with_fls, events_of, fls_events_of, begun, replied, on_board, running, by_service, running_call, service_of, by_fls_service, fls_running_call, fls_service_of, by_event, step, started}
 use Rattle.mt_replay.specs.Outcome.{Run, Reaction, played, stepped, refused, answered, run_lines}
-use Rattle.mt_replay.specs.Latency.{WaitsShortly, stepping, steps_from, last_steps, line_steps, configured_steps, by_job_steps, RequestsWaitShortly, steps_text, TracesAreOfSteps}
+use Rattle.mt_replay.specs.Latency.{ServesInTime, stepping, steps_from, last_steps, line_steps, configured_steps, by_job_steps, RequestsAreServedInTime, steps_text, TracesAreOfSteps}
+
+-- what is known of the running calls
+pub record RunningCalls : Type 0 where
+  pub ram : (call : Running) → CallServes (events_of call)
+  pub fls : (call : FlsRunning) → CallServes (fls_events_of call)
 
 -- one reply, which waits for nothing
-replied-short : (made : List Attempt) (reply : Reply) → All (IsShort made) (Own reply ∷ [])
-replied-short made reply = All-push (IsShort made) [] (Own reply) (λ k d h. absurd (omega (arith, h))) tt
+replied-short : (m : Machine) (reply : Reply) → ServesInTime (replied m reply)
+replied-short m reply = record { places = refl; short = All-push (IsShort []) [] (Own reply) (λ k d h. absurd (omega (arith, h))) tt; urgent = λ k d h. absurd (omega (arith, h)) }
 
 -- a running event
-running-short : {C X V : Type 0} (with : Board → C → Machine) (call : Events C X V) (board : Board) (callee : C) (requests : List Request) → AreOrdered requests
-    → WaitsShortly (running with call (begun board callee requests))
-running-short with call board callee requests ordered =
+running-short : {C X V : Type 0} (with : Board → C → Machine) (call : Events C X V) (board : Board) (callee : C) (requests : List Request) → CallServes call → AreOrdered requests
+    → ServesInTime (running with call (begun board callee requests))
+running-short with call board callee requests serves ordered =
     let s = begun board callee requests in
-    All-push (IsShort (event_attempts call s)) ((event_of call s).after.log) (Own (event_of call s).reply) (event-waits call s refl refl ordered) tt
+    let fresh : IsFresh s = record { empty = refl; start = refl; ordered = ordered } in
+    let log = (event_of call s).after.log in
+    record {
+      places = filter-append is_service log (Own (event_of call s).reply ∷ []) ∙ append_nil (services log) ∙ serves.places s fresh;
+      short = All-push (IsShort (event_attempts call s)) log (Own (event_of call s).reply) (serves.short s fresh) tt;
+      urgent = serves.urgent s fresh;
+    }
 
-ram-short : (m : Machine) (call : Option Running) (service : _) (requests : List Request) → AreOrdered requests → WaitsShortly (by_service m service call requests)
-ram-short m None service requests ordered = replied-short [] _
-ram-short m (Some call) service requests ordered = running-short (with_ram m.modules) (events_of call) m.board m.modules.ram requests ordered
+ram-short : RunningCalls → (m : Machine) (call : Option Running) (service : _) (requests : List Request) → AreOrdered requests → ServesInTime (by_service m service call requests)
+ram-short calls m None service requests ordered = replied-short _ _
+ram-short calls m (Some call) service requests ordered = running-short (with_ram m.modules) (events_of call) m.board m.modules.ram requests (calls.ram call) ordered
 
-fls-short : (m : Machine) (call : Option FlsRunning) (service : _) (requests : List Request) → AreOrdered requests → WaitsShortly (by_fls_service m service call requests)
-fls-short m None service requests ordered = replied-short [] _
-fls-short m (Some call) service requests ordered = running-short (with_fls m.modules) (fls_events_of call) m.board m.modules.fls requests ordered
+fls-short : RunningCalls → (m : Machine) (call : Option FlsRunning) (service : _) (requests : List Request) → AreOrdered requests → ServesInTime (by_fls_service m service call requests)
+fls-short calls m None service requests ordered = replied-short _ _
+fls-short calls m (Some call) service requests ordered = running-short (with_fls m.modules) (fls_events_of call) m.board m.modules.fls requests (calls.fls call) ordered
 
 -- an injection, where a fault is there or not
-inject-short : (m : Machine) (fault : Fault) (there : Bool) → WaitsShortly (cond there (replied m replies.Present) (replied (on_board m (injected m.board fault)) replies.Done))
-inject-short m fault true = replied-short [] _
-inject-short m fault false = replied-short [] _
+inject-short : (m : Machine) (fault : Fault) (there : Bool) → ServesInTime (cond there (replied m replies.Present) (replied (on_board m (injected m.board fault)) replies.Done))
+inject-short m fault true = replied-short _ _
+inject-short m fault false = replied-short _ _
 
-event-short : (m : Machine) (e : Event) (requests : List Request) → AreOrdered requests → WaitsShortly (by_event m e requests)
-event-short m event.Nothing requests ordered = λ k d h. absurd (omega (arith, h))
-event-short m (event.Ram call) requests ordered = ram-short m (running_call call) (service_of call) requests ordered
-event-short m (event.Fls call) requests ordered = fls-short m (fls_running_call call) (fls_service_of call) requests ordered
-event-short m event.TickRam requests ordered = ram-short m (Some calls.Tick) MainFunction requests ordered
-event-short m event.TickFls requests ordered = fls-short m (Some fls_calls.Tick) fls_table.MainFunction requests ordered
-event-short m (event.App op) requests ordered = replied-short [] _
-event-short m (event.Inject fault) requests ordered = inject-short m fault (is_some m.board.fault)
-event-short m event.Heal requests ordered = replied-short [] _
-event-short m (event.Burn addr word) requests ordered = replied-short [] _
-event-short m (event.Flip at) requests ordered = replied-short [] _
+event-short : RunningCalls → (m : Machine) (e : Event) (requests : List Request) → AreOrdered requests → ServesInTime (by_event m e requests)
+event-short calls m event.Nothing requests ordered = record { places = refl; short = λ k d h. absurd (omega (arith, h)); urgent = λ k d h. absurd (omega (arith, h)) }
+event-short calls m (event.Ram call) requests ordered = ram-short calls m (running_call call) (service_of call) requests ordered
+event-short calls m (event.Fls call) requests ordered = fls-short calls m (fls_running_call call) (fls_service_of call) requests ordered
+event-short calls m event.TickRam requests ordered = ram-short calls m (Some rams.Tick) MainFunction requests ordered
+event-short calls m event.TickFls requests ordered = fls-short calls m (Some fls_calls.Tick) fls_table.MainFunction requests ordered
+event-short calls m (event.App op) requests ordered = replied-short _ _
+event-short calls m (event.Inject fault) requests ordered = inject-short m fault (is_some m.board.fault)
+event-short calls m event.Heal requests ordered = replied-short _ _
+event-short calls m (event.Burn addr word) requests ordered = replied-short _ _
+event-short calls m (event.Flip at) requests ordered = replied-short _ _
 
-step-short : (m : Machine) (line : Line) → AreOrdered line.requests.items → WaitsShortly (step m line)
+step-short : RunningCalls → (m : Machine) (line : Line) → AreOrdered line.requests.items → ServesInTime (step m line)
 unfolding step
-step-short m line ordered = event-short m line.event line.requests.items ordered
+step-short calls m line ordered = event-short calls m line.event line.requests.items ordered
 
-All-none : All WaitsShortly []
+All-none : All ServesInTime []
 All-none = λ k d h. absurd (omega (arith, h))
 
-stepping-short : (shape : Shape) (m : Machine) (r : Result Line LineRefusal) (follow : Machine → List Step) → IfOk r (λ line. IsAccepted shape line) → ((after : Machine) → All WaitsShortly (follow after))
-    → All WaitsShortly (stepping m r follow)
-stepping-short shape m (Err e) follow ok h = All-none
-stepping-short shape m (Ok line) follow ok h = All-cons WaitsShortly (step m line) (follow (step m line).after) (step-short m line ok.requests.ordered) (h (step m line).after)
+stepping-short : RunningCalls → (shape : Shape) (m : Machine) (r : Result Line LineRefusal) (follow : Machine → List Step) → IfOk r (λ line. IsAccepted shape line) → ((after : Machine) → All ServesInTime (follow after))
+    → All ServesInTime (stepping m r follow)
+stepping-short calls shape m (Err e) follow ok h = All-none
+stepping-short calls shape m (Ok line) follow ok h = All-cons ServesInTime (step m line) (follow (step m line).after) (step-short calls m line ok.requests.ordered) (h (step m line).after)
 
-from-short : (shape : Shape) (m : Machine) (n : ℕ) (line : List ℕ) (follow : Machine → List Step) → ((after : Machine) → All WaitsShortly (follow after)) → All WaitsShortly (steps_from shape m n line follow)
-from-short shape m n line follow h = of (nat_lt 1000000 n) (nat_lt 1024 (length line)) (stepping-short shape m (line_of shape line) follow (ok_accepted shape line _ refl) h)
+from-short : RunningCalls → (shape : Shape) (m : Machine) (n : ℕ) (line : List ℕ) (follow : Machine → List Step) → ((after : Machine) → All ServesInTime (follow after)) → All ServesInTime (steps_from shape m n line follow)
+from-short calls shape m n line follow h = of (nat_lt 1000000 n) (nat_lt 1024 (length line)) (stepping-short calls shape m (line_of shape line) follow (ok_accepted shape line _ refl) h)
   where
-    of : (late long : Bool) → All WaitsShortly (stepping m (line_of shape line) follow) → All WaitsShortly (cond late [] (cond long [] (stepping m (line_of shape line) follow)))
+    of : (late long : Bool) → All ServesInTime (stepping m (line_of shape line) follow) → All ServesInTime (cond late [] (cond long [] (stepping m (line_of shape line) follow)))
     of true long all = All-none
     of false true all = All-none
     of false false all = all
 
-last-short : (ending : Ending) (shape : Shape) (m : Machine) (n : ℕ) (rest : List ℕ) → All WaitsShortly (last_steps ending shape m n rest)
-last-short Finished shape m n [] = All-none
-last-short Finished shape m n (byte ∷ bytes) = from-short shape m n (byte ∷ bytes) (λ after. []) (λ after. All-none)
-last-short Failed shape m n rest = All-none
+last-short : RunningCalls → (ending : Ending) (shape : Shape) (m : Machine) (n : ℕ) (rest : List ℕ) → All ServesInTime (last_steps ending shape m n rest)
+last-short calls Finished shape m n [] = All-none
+last-short calls Finished shape m n (byte ∷ bytes) = from-short calls shape m n (byte ∷ bytes) (λ after. []) (λ after. All-none)
+last-short calls Failed shape m n rest = All-none
 
-lines-short : (ending : Ending) (shape : Shape) (m : Machine) (n : ℕ) (lines : List (List ℕ)) (rest : List ℕ) → All WaitsShortly (line_steps ending shape m n lines rest)
-lines-short ending shape m n [] rest = last-short ending shape m n rest
-lines-short ending shape m n (line ∷ more) rest =
-    from-short shape m n line (λ after. line_steps ending shape after (n + 1) more rest) (λ after. lines-short ending shape after (n + 1) more rest)
+lines-short : RunningCalls → (ending : Ending) (shape : Shape) (m : Machine) (n : ℕ) (lines : List (List ℕ)) (rest : List ℕ) → All ServesInTime (line_steps ending shape m n lines rest)
+lines-short calls ending shape m n [] rest = last-short calls ending shape m n rest
+lines-short calls ending shape m n (line ∷ more) rest =
+    from-short calls shape m n line (λ after. line_steps ending shape after (n + 1) more rest) (λ after. lines-short calls ending shape after (n + 1) more rest)
 
-configured-short : (ending : Ending) (defect : Option Fault) (r : Result Config ConfigRefusal) (script : Cut) → All WaitsShortly (configured_steps ending defect r script)
-configured-short ending defect (Err e) script = All-none
-configured-short ending defect (Ok c) script = lines-short ending c.shape (started c defect) 1 script.lines script.rest
+configured-short : RunningCalls → (ending : Ending) (defect : Option Fault) (r : Result Config ConfigRefusal) (script : Cut) → All ServesInTime (configured_steps ending defect r script)
+configured-short calls ending defect (Err e) script = All-none
+configured-short calls ending defect (Ok c) script = lines-short calls ending c.shape (started c defect) 1 script.lines script.rest
 
-pub requests_wait_shortly : (defect : Option Fault) → RequestsWaitShortly defect
-requests_wait_shortly defect ending bytes = of (job_of ending bytes)
+pub requests_are_served_in_time : RunningCalls → (defect : Option Fault) → RequestsAreServedInTime defect
+requests_are_served_in_time calls defect ending bytes = of (job_of ending bytes)
   where
-    of : (job : Job) → All WaitsShortly (by_job_steps ending defect job)
-    of (Parted config script) = configured-short ending defect (config_of config) script
+    of : (job : Job) → All ServesInTime (by_job_steps ending defect job)
+    of (Parted config script) = configured-short calls ending defect (config_of config) script
     of (Whole bytes) = All-none
 
 -- ---- the text

@@ -141,17 +141,17 @@ ready_to_serve kind b requests free left sound for =
 -- ---- a service that is answered at once
 
 pub does_call : (m : Machine) (ram : RamTst) (service : Service) (reply : Reply) (log : List Entry) → reply ≡ reply_to m.modules.ram service → ram ≡ after m.modules.ram service → log ≡ []
-    → called m service ≡ record { after = with_ram m.modules m.board ram; entries = log ++ Own reply ∷ []; touches = []; attempts = [] }
+    → called m service ≡ record { after = with_ram m.modules m.board ram; entries = log ++ Own reply ∷ []; touches = []; count = 0; attempts = []; requests = [] }
 does_call m ram service reply log told next none =
-    let step : RamTst → List Entry → Step = λ r entries. record { after = with_ram m.modules m.board r; entries = entries; touches = []; attempts = [] } in
+    let step : RamTst → List Entry → Step = λ r entries. record { after = with_ram m.modules m.board r; entries = entries; touches = []; count = 0; attempts = []; requests = [] } in
     ap (λ (r : RamTst). step r (Own (reply_to m.modules.ram service) ∷ [])) (sym next)
     ∙ ap (λ (x : Reply). step ram (Own x ∷ [])) (sym told)
     ∙ ap (λ (l : List Entry). step ram (l ++ Own reply ∷ [])) (sym none)
 
 pub does_call_fls : (m : Machine) (f : FlsTst) (service : fls_table.Service) (reply : Reply) (log : List Entry) → reply ≡ fls_table.reply_to m.modules.fls service → f ≡ fls_table.after m.modules.fls service → log ≡ []
-    → fls_called m service ≡ record { after = with_fls m.modules m.board f; entries = log ++ Own reply ∷ []; touches = []; attempts = [] }
+    → fls_called m service ≡ record { after = with_fls m.modules m.board f; entries = log ++ Own reply ∷ []; touches = []; count = 0; attempts = []; requests = [] }
 does_call_fls m f service reply log told next none =
-    let step : FlsTst → List Entry → Step = λ r entries. record { after = with_fls m.modules m.board r; entries = entries; touches = []; attempts = [] } in
+    let step : FlsTst → List Entry → Step = λ r entries. record { after = with_fls m.modules m.board r; entries = entries; touches = []; count = 0; attempts = []; requests = [] } in
     ap (λ (r : FlsTst). step r (Own (fls_table.reply_to m.modules.fls service) ∷ [])) (sym next)
     ∙ ap (λ (x : Reply). step f (Own x ∷ [])) (sym told)
     ∙ ap (λ (l : List Entry). step f (l ++ Own reply ∷ [])) (sym none)

@@ -6,7 +6,7 @@ use Rattle.mt_text.specs.declared.line.Line.{Line}
 use Rattle.mt_text.specs.declared.line.LineRefusal.{LineRefusal}
 use Rattle.mt_text.specs.Lines.{line_of}
 use Rattle.mt_text.specs.Trace.{entries_text}
-use Rattle.mt_window.specs.Waits.{IsShort}
+use Rattle.mt_window.specs.Waits.{services, line_served, IsShort, IsUrgentlyServed}
 use Rattle.mt_conf.specs.declared.config.Config.{Config}
 use Rattle.mt_conf.specs.declared.config.ConfigRefusal.{ConfigRefusal}
 use Rattle.mt_conf.specs.Outcome.{outcome as config_of}
@@ -15,9 +15,14 @@ use Rattle.mt_replay.specs.Input.{Ending, Finished, Failed, Cut, Job, Parted, Wh
 use Rattle.mt_replay.specs.Machine.{Machine, Step, step, started}
 use Rattle.mt_replay.specs.Outcome.{run_script}
 
--- each wait that a step enters is 0, or below the length of the sequence that the request meets
-abbrev pub WaitsShortly : Step → Type 0
-WaitsShortly s = All (IsShort s.attempts) s.entries
+-- How the requests of a step are served.
+pub record ServesInTime (s : Step) : Type 0 where
+  -- each at the first boundary that its offset doesn't exceed, or else with no wait at the event's end
+  pub places : services s.entries ≡ line_served s.attempts s.count 1 s.requests
+  -- each waits 0, or less than the length of the attempt that it meets
+  pub short : All (IsShort s.attempts) s.entries
+  -- an urgent one that meets an attempt which might be dropped waits at most the words that this writes back
+  pub urgent : All (IsUrgentlyServed s.attempts) s.requests
 
 -- the step of a line, and then those of what follows; a refused line makes none, and ends the script
 abbrev pub stepping : Machine → Result Line LineRefusal → (Machine → List Step) → List Step
@@ -54,8 +59,8 @@ abbrev pub job_steps : Ending → Option Fault → List ℕ → List Step
 job_steps ending defect bytes = by_job_steps ending defect (job_of ending bytes)
 
 -- whatever bytes a job has
-abbrev pub RequestsWaitShortly : Option Fault → Type 0
-RequestsWaitShortly defect = (ending : Ending) (bytes : List ℕ) → All WaitsShortly (job_steps ending defect bytes)
+abbrev pub RequestsAreServedInTime : Option Fault → Type 0
+RequestsAreServedInTime defect = (ending : Ending) (bytes : List ℕ) → All ServesInTime (job_steps ending defect bytes)
 
 -- their trace lines, the first of which has this number
 abbrev pub steps_text : Shape → ℕ → List Step → List ℕ

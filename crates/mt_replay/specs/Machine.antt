@@ -48,16 +48,19 @@ pub record Machine : Type 0 where
   pub board : Board
   pub modules : Modules
 
--- what a line makes of the machine, what it enters in the trace, the test accesses that it makes, and its attempts at slices
+-- what a line makes of the machine, what it enters in the trace, the test accesses that it makes and how many they are, its attempts
+-- at slices, and the requests that are served in it
 pub record Step : Type 0 where
   pub after : Machine
   pub entries : List Entry
   pub touches : List Touch
+  pub count : ℕ
   pub attempts : List Attempt
+  pub requests : List Request
 
 -- a line that only replies
 abbrev pub replied : Machine → Reply → Step
-replied after reply = record { after = after; entries = Own reply ∷ []; touches = []; attempts = [] }
+replied after reply = record { after = after; entries = Own reply ∷ []; touches = []; count = 0; attempts = []; requests = [] }
 
 -- the machine with another board, and with another module
 abbrev pub on_board : Machine → Board → Machine
@@ -92,16 +95,18 @@ abbrev pub begun : {C : Type 0} → Board → C → List Request → Scene C
 begun board callee requests = scene (record board { left = requests; taken = 0; count = 0 }) callee []
 
 -- what the event left, with its own reply entered last
-abbrev pub happened : {C : Type 0} → (Board → C → Machine) → Outcome C → List Touch → List Attempt → Step
-happened with o touches attempts = record {
+abbrev pub happened : {C X V : Type 0} → (Board → C → Machine) → Events C X V → Scene C → Outcome C → Step
+happened with call s o = record {
   after = with (record (o.after.board) { count = 0 }) o.after.callee;
   entries = o.after.log ++ Own o.reply ∷ [];
-  touches = touches;
-  attempts = attempts;
+  touches = event_touches call s;
+  count = o.after.board.count;
+  attempts = event_attempts call s;
+  requests = s.board.left;
 }
 
 abbrev pub running : {C X V : Type 0} → (Board → C → Machine) → Events C X V → Scene C → Step
-running with call s = happened with (event_of call s) (event_touches call s) (event_attempts call s)
+running with call s = happened with call s (event_of call s)
 
 -- ---- RamTst
 
@@ -190,7 +195,7 @@ by_fls m call requests = by_fls_service m (fls_service_of call) (fls_running_cal
 
 -- what an event does
 abbrev pub by_event : Machine → Event → List Request → Step
-by_event m event.Nothing requests = record { after = m; entries = []; touches = []; attempts = [] }
+by_event m event.Nothing requests = record { after = m; entries = []; touches = []; count = 0; attempts = []; requests = [] }
 by_event m (event.Ram call) requests = by_ram m call requests
 by_event m (event.Fls call) requests = by_fls m call requests
 by_event m event.TickRam requests = running_ram calls.Tick m requests

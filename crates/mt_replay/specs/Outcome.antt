@@ -5,17 +5,15 @@ use Rattle.mt_port.specs.declared.board.Touch.{Touch}
 use Rattle.mt_port.specs.Board.{Board}
 use Rattle.mt_fault.specs.declared.fault.Fault.{Fault}
 use Rattle.mt_text.specs.declared.line.Line.{Line}
-use Rattle.mt_text.specs.declared.line.LineKind.{LineKind}
-use Rattle.mt_text.specs.declared.line.LineKind.TheVariants.{Spelling, Number, Address, WordTooWide, OffsetsFall, TooManyRequests, TooManyOps, NotInHandler, FaultRefused}
 use Rattle.mt_text.specs.declared.line.LineRefusal.{LineRefusal}
 use Rattle.mt_text.specs.Lines.{line_of}
+use Rattle.mt_text.specs.TokenRules.{kind_number}
 use Rattle.mt_text.specs.Trace.{entries_text}
 use Rattle.mt_text.specs.Canonical.{canonical}
 use Rattle.mt_port.specs.declared.board.Shape.{Shape}
 use Rattle.mt_replay.specs.declared.status.Status.{Status}
 use Rattle.mt_replay.specs.declared.status.Status.TheVariants as status
-use Rattle.mt_march.specs.declared.march.MarchKind.{MarchKind}
-use Rattle.mt_march.specs.declared.march.MarchKind.TheVariants as march
+use Rattle.mt_march.specs.Reading.{march_number}
 use Rattle.mt_conf.specs.declared.config.Config.{Config}
 use Rattle.mt_conf.specs.declared.config.ConfigRefusal.{ConfigRefusal}
 use Rattle.mt_conf.specs.declared.config.ConfigRefusal.TheVariants.{March}
@@ -66,14 +64,6 @@ read_fault_text = codes "read fault\n"
 abbrev pub read_fault : Machine → Run
 read_fault m = closed m read_fault_text status.ReadFault
 
--- the numbers of the rules of marches
-abbrev pub march_number : MarchKind → ℕ
-march_number march.Spelling = 1
-march_number march.TooLong = 2
-march_number march.ReadBeforeWrite = 3
-march_number march.WrongExpectation = 4
-march_number march.OneValueOnly = 5
-
 -- why a configuration is refused, as it is told
 abbrev pub refused_of : ConfigRefusal → Refused
 refused_of (March set kind place) = because.March set (march_number kind) place
@@ -91,18 +81,6 @@ bad_config_text (because.March set kind place) = codes "bad config 11 " ++ decim
 -- a text and test accesses in front
 abbrev pub preceded : List ℕ → List Touch → Run → Run
 preceded text touches run = record { text = text ++ run.text; touches = touches ++ run.touches; status = run.status; board = run.board }
-
--- the numbers of the rules of script lines
-abbrev pub kind_number : LineKind → ℕ
-kind_number Spelling = 1
-kind_number Number = 2
-kind_number Address = 3
-kind_number WordTooWide = 4
-kind_number OffsetsFall = 5
-kind_number TooManyRequests = 6
-kind_number TooManyOps = 7
-kind_number NotInHandler = 8
-kind_number FaultRefused = 9
 
 -- what is made of an accepted line: a text, test accesses, and the machine after it
 pub record Reaction : Type 0 where

@@ -12,7 +12,7 @@ ghost use Rattle.mt_conf.specs.Accepted.{IsAcceptedConfig};
 ghost use Rattle.mt_replay.specs.Machine.{Machine, IsReady, started};
 ghost use Rattle.mt_replay.specs.Outcome.{opening_text, bad_config, bad_config_text, by_job, rule_number as number_of_rule};
 ghost use Rattle.mt_replay.specs.Run.{IsReadyFor, UsesBoard};
-ghost use Rattle.mt_replay.specs.Latency.{RequestsWaitShortly};
+ghost use Rattle.mt_replay.specs.Latency.{RequestsAreServedInTime};
 ghost use Rattle.mt_replay.specs.Replay.{form_named, ask_of, ask_named, command_of, command_outcomes, TellsLeastTicks, IsAcceptedFound, FoundGives, HeadFails, Begins, EmptyGives, HasScript, IsFound, IsStart, JobGives, Replays, StatusCaused, StaysFree, Completes, Told, outcomes};
 
 use crate::cut_job::cut_found;
@@ -26,7 +26,9 @@ use crate::status::Status;
 use crate::text::{bad_config_text, done_text};
 use mt_conf::{Config, ConfigRefusal, read_config, write_config};
 use mt_cut::longest_runs_are_least;
+use mt_fls::waits_of_running_calls as fls_waits;
 use mt_port::{Bench, Failed, Sink, Source, put};
+use mt_ram::waits_of_running_calls as ram_waits;
 use mt_text::number_of;
 use mt_word::NoMemory;
 use std::alloc::Global;
@@ -444,13 +446,16 @@ pub fn replay<S: Source, K: Sink, B: Bench>(
     ensures free { StaysFree (B.state board.old) (B.state board.new) }
     // Where neither stream failed, an accepted job ends in `Done`, or no memory was found.
     ensures complete { Completes (command_of words.now) result (B.state board.old).defect (S.left source.old) (S.faults source.old) (S.faults source.new) (K.faults sink.old) (K.faults sink.new) }
-    // Whatever bytes a job has, each request of its replay waits 0, or less than the length of the sequence that it meets.
-    ensures latency { RequestsWaitShortly (B.state board.old).defect }
+    // Whatever bytes a job has, each request of its replay is served where its offset says; it waits 0, or less than the
+    // length of the attempt that it meets; and an urgent one at most the words of the slice, where the attempt may be dropped.
+    ensures latency { RequestsAreServedInTime (B.state board.old).defect }
     // Whatever bytes a job has, no cut under the budget has fewer ticks than `cut` tells.
     ensures least { TellsLeastTicks (command_of words.now) (B.state board.old).defect }
 {
     // No cut under a budget has fewer ticks than the longest runs.
     longest_runs_are_least();
+    ram_waits();
+    fls_waits();
     match command_of(words) {
         Some(command) => replay_job(alloc, command, source, sink, board),
         None => tell(sink, b"usage\n", Status::Usage),

@@ -1,10 +1,9 @@
 //! Why a configuration is refused.
 
 ghost use Rattle.std.specs.Prelude.{◌≡◌};
-ghost use Rattle.mt_replay.specs.Outcome.{march_number, refused_of, rule_number};
+ghost use Rattle.mt_replay.specs.Outcome.{refused_of, rule_number};
 
 use mt_conf::ConfigRefusal;
-use mt_march::MarchKind;
 
 /// Why a configuration is refused: the number of a rule; or the march of the set with this number, counted from 0, with
 /// the number of the march's rule and the place in its text, counted in bytes from 1.
@@ -14,19 +13,6 @@ pub enum Refused {
     March { set: u32, kind: u8, place: u32 },
 }
 
-// The number of a rule of marches.
-fn march_number(kind: MarchKind) -> u8
-    ensures { result ≡ march_number kind }
-{
-    match kind {
-        MarchKind::Spelling => 1,
-        MarchKind::TooLong => 2,
-        MarchKind::ReadBeforeWrite => 3,
-        MarchKind::WrongExpectation => 4,
-        MarchKind::OneValueOnly => 5,
-    }
-}
-
 /// The refusal of a configuration as it is told.
 pub fn refused_of(refusal: &ConfigRefusal) -> Refused
     ensures { result ≡ refused_of refusal.now }
@@ -34,7 +20,7 @@ pub fn refused_of(refusal: &ConfigRefusal) -> Refused
     match refusal {
         ConfigRefusal::March { set, kind, place } => Refused::March {
             set: *set,
-            kind: march_number(*kind),
+            kind: kind.number(),
             place: *place,
         },
         _ => Refused::Rule(refusal.number()),

@@ -7,7 +7,7 @@ ghost use Rattle.mt_port.specs.Streams.{AppendsFront, WhereTold};
 ghost use Rattle.mt_text.specs.Accepted.{IsAccepted as IsAcceptedLine};
 ghost use Rattle.mt_text.specs.Trace.{entries_text};
 ghost use Rattle.mt_replay.specs.Machine.{Machine, IsReady, step};
-ghost use Rattle.mt_replay.specs.Outcome.{closing_text, refused_text, kind_number, done, refused, played, reaction, stepped, judged};
+ghost use Rattle.mt_replay.specs.Outcome.{closing_text, refused_text, done, refused, played, reaction, stepped, judged};
 ghost use Rattle.mt_replay.specs.Events.{AnswerGives};
 ghost use Rattle.mt_replay.specs.Run.{Caused, SinkCaused, LineGives, EndGives, TurnGives, ScriptGives, IsReadyFor, UsesBoard};
 
@@ -35,23 +35,6 @@ pub enum Fault {
 pub enum Turn {
     More,
     Ended(Status),
-}
-
-// The number of a rule of script lines.
-fn kind_number(kind: LineKind) -> u8
-    ensures { result ≡ kind_number kind }
-{
-    match kind {
-        LineKind::Spelling => 1,
-        LineKind::Number => 2,
-        LineKind::Address => 3,
-        LineKind::WordTooWide => 4,
-        LineKind::OffsetsFall => 5,
-        LineKind::TooManyRequests => 6,
-        LineKind::TooManyOps => 7,
-        LineKind::NotInHandler => 8,
-        LineKind::FaultRefused => 9,
-    }
 }
 
 // Writes a closing line.
@@ -235,7 +218,7 @@ fn judge_line<K: Sink, B: Bench>(
 {
     match read_line(text, task.shape) {
         Ok(line) => answer_line(task, modules, board, sink, line, number),
-        Err(refusal) => refuse_turn(sink, number, kind_number(refusal.kind), refusal.place),
+        Err(refusal) => refuse_turn(sink, number, refusal.kind.number(), refusal.place),
     }
 }
 

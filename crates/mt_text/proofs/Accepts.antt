@@ -68,19 +68,19 @@ pub number_small : (bytes : List ℕ) (n : ℕ) → number_of bytes ≡ Some n �
 unfolding number_of
 number_small bytes n h = small_if (decimal 0 bytes) n (kept_if (nat_lt 10 (length bytes)) _ n (kept_if (not (list_all is_digit bytes)) _ n (kept_if (has_leading_zero bytes) _ n h)))
 
-after_test : {A : Type 0} (b : Bool) (k : LineKind) (later : Result A LineKind) (x : A) → broken_if b k later ≡ Ok x → (b ≡ false) × (later ≡ Ok x)
+pub after_test : {A : Type 0} (b : Bool) (k : LineKind) (later : Result A LineKind) (x : A) → broken_if b k later ≡ Ok x → (b ≡ false) × (later ≡ Ok x)
 after_test true k later x h = absurd cc
 after_test false k later x h = (refl, h)
 
-after_spelled : {A B : Type 0} (o : Option A) (f : A → Result B LineKind) (y : B) → spelled o f ≡ Ok y → (x : A) × (o ≡ Some x) × (f x ≡ Ok y)
+pub after_spelled : {A B : Type 0} (o : Option A) (f : A → Result B LineKind) (y : B) → spelled o f ≡ Ok y → (x : A) × (o ≡ Some x) × (f x ≡ Ok y)
 after_spelled None f y h = absurd cc
 after_spelled (Some x) f y h = (x, refl, h)
 
-after_mapped : {A B : Type 0} (f : A → B) (r : Result A LineKind) (y : B) → mapped_ok f r ≡ Ok y → (x : A) × (r ≡ Ok x) × (f x ≡ y)
+pub after_mapped : {A B : Type 0} (f : A → B) (r : Result A LineKind) (y : B) → mapped_ok f r ≡ Ok y → (x : A) × (r ≡ Ok x) × (f x ≡ y)
 after_mapped f (Ok x) y h = (x, refl, cc)
 after_mapped f (Err k) y h = absurd cc
 
-of_kind : {A : Type 0} (b : Bool) (r : Result A LineKind) (k : LineKind) (x : A) → cond b r (Err k) ≡ Ok x → r ≡ Ok x
+pub of_kind : {A : Type 0} (b : Bool) (r : Result A LineKind) (k : LineKind) (x : A) → cond b r (Err k) ≡ Ok x → r ≡ Ok x
 of_kind true r k x h = h
 of_kind false r k x h = absurd cc
 

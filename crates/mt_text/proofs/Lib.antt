@@ -18,3 +18,5 @@ pub mod RoundTrip
 pub mod RuleOne
 pub mod SpellingLaws
 pub mod TraceLemmas
+pub mod LeastRules
+pub mod TokensOfLines

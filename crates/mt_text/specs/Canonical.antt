@@ -77,13 +77,13 @@ ram_words call = ram_name (ram_parts call).0 ∷ argument (ram_parts call).1
 abbrev pub fls_words : FlsCall → List (List ℕ)
 fls_words call = fls_name (fls_parts call).0 ∷ argument (fls_parts call).1
 
--- an operation of the application
-abbrev pub app_words : Width → AppOp → List (List ℕ)
-app_words width (Read a) = codes "r" ∷ decimal a ∷ []
-app_words width (Write a x) = codes "w" ∷ decimal a ∷ word_text width x ∷ []
-app_words width (Add a x) = codes "add" ∷ decimal a ∷ word_text width x ∷ []
-app_words width (Copy src dst) = codes "copy" ∷ decimal src ∷ decimal dst ∷ []
-app_words width (Flash a) = codes "f" ∷ decimal a ∷ []
+-- an operation of the application, with its word written so
+abbrev pub app_words_by : (ℕ → List ℕ) → AppOp → List (List ℕ)
+app_words_by write (Read a) = codes "r" ∷ decimal a ∷ []
+app_words_by write (Write a x) = codes "w" ∷ decimal a ∷ write x ∷ []
+app_words_by write (Add a x) = codes "add" ∷ decimal a ∷ write x ∷ []
+app_words_by write (Copy src dst) = codes "copy" ∷ decimal src ∷ decimal dst ∷ []
+app_words_by write (Flash a) = codes "f" ∷ decimal a ∷ []
 
 -- a word's address and a bit of it
 abbrev pub spot_text : Spot → List ℕ
@@ -105,29 +105,29 @@ wiring_text true = codes "and"
 wiring_text false = codes "or"
 
 -- a fault behind the word `inject`
-abbrev pub fault_words : Width → Fault → List (List ℕ)
-fault_words width (StuckAt vic value) = codes "sa" ∷ spot_text vic ∷ bit_text value ∷ []
-fault_words width (CannotRise vic) = codes "tf-up" ∷ spot_text vic ∷ []
-fault_words width (CannotFall vic) = codes "tf-down" ∷ spot_text vic ∷ []
-fault_words width (Invert agg rise vic) = codes "cfin" ∷ direction_text rise ∷ spot_text agg ∷ spot_text vic ∷ []
-fault_words width (Force agg rise vic value) = codes "cfid" ∷ direction_text rise ∷ spot_text agg ∷ spot_text vic ∷ bit_text value ∷ []
-fault_words width (State agg holds vic value) = codes "cfst" ∷ bit_text holds ∷ spot_text agg ∷ spot_text vic ∷ bit_text value ∷ []
-fault_words width (NoCell addr seen) = codes "af-none" ∷ decimal addr ∷ word_text width seen ∷ []
-fault_words width (Also addr other wired_and) = codes "af-also" ∷ decimal addr ∷ decimal other ∷ wiring_text wired_and ∷ []
-fault_words width (Instead addr other) = codes "af-instead" ∷ decimal addr ∷ decimal other ∷ []
+abbrev pub fault_words_by : (ℕ → List ℕ) → Fault → List (List ℕ)
+fault_words_by write (StuckAt vic value) = codes "sa" ∷ spot_text vic ∷ bit_text value ∷ []
+fault_words_by write (CannotRise vic) = codes "tf-up" ∷ spot_text vic ∷ []
+fault_words_by write (CannotFall vic) = codes "tf-down" ∷ spot_text vic ∷ []
+fault_words_by write (Invert agg rise vic) = codes "cfin" ∷ direction_text rise ∷ spot_text agg ∷ spot_text vic ∷ []
+fault_words_by write (Force agg rise vic value) = codes "cfid" ∷ direction_text rise ∷ spot_text agg ∷ spot_text vic ∷ bit_text value ∷ []
+fault_words_by write (State agg holds vic value) = codes "cfst" ∷ bit_text holds ∷ spot_text agg ∷ spot_text vic ∷ bit_text value ∷ []
+fault_words_by write (NoCell addr seen) = codes "af-none" ∷ decimal addr ∷ write seen ∷ []
+fault_words_by write (Also addr other wired_and) = codes "af-also" ∷ decimal addr ∷ decimal other ∷ wiring_text wired_and ∷ []
+fault_words_by write (Instead addr other) = codes "af-instead" ∷ decimal addr ∷ decimal other ∷ []
 
 -- an event; one that does nothing has no words
-abbrev pub event_words : Width → Event → List (List ℕ)
-event_words width Nothing = []
-event_words width (Ram call) = codes "ram" ∷ ram_words call
-event_words width (Fls call) = codes "fls" ∷ fls_words call
-event_words width TickRam = codes "tick" ∷ codes "ram" ∷ []
-event_words width TickFls = codes "tick" ∷ codes "fls" ∷ []
-event_words width (App op) = codes "app" ∷ app_words width op
-event_words width (Inject fault) = codes "inject" ∷ fault_words width fault
-event_words width Heal = codes "heal" ∷ []
-event_words width (Burn addr word) = codes "burn" ∷ decimal addr ∷ word_text width word ∷ []
-event_words width (Flip spot) = codes "flip" ∷ spot_text spot ∷ []
+abbrev pub event_words_by : (ℕ → List ℕ) → Event → List (List ℕ)
+event_words_by write Nothing = []
+event_words_by write (Ram call) = codes "ram" ∷ ram_words call
+event_words_by write (Fls call) = codes "fls" ∷ fls_words call
+event_words_by write TickRam = codes "tick" ∷ codes "ram" ∷ []
+event_words_by write TickFls = codes "tick" ∷ codes "fls" ∷ []
+event_words_by write (App op) = codes "app" ∷ app_words_by write op
+event_words_by write (Inject fault) = codes "inject" ∷ fault_words_by write fault
+event_words_by write Heal = codes "heal" ∷ []
+event_words_by write (Burn addr word) = codes "burn" ∷ decimal addr ∷ write word ∷ []
+event_words_by write (Flip spot) = codes "flip" ∷ spot_text spot ∷ []
 
 -- ---- the words of a request
 
@@ -148,9 +148,23 @@ call_words handler.FlsGetTestResultBgnd = codes "fls" ∷ codes "GetTestResultBg
 call_words handler.FlsGetTestResultFgnd = codes "fls" ∷ codes "GetTestResultFgnd" ∷ []
 
 -- an operation of a handler
+abbrev pub op_words_by : (ℕ → List ℕ) → HandlerOp → List (List ℕ)
+op_words_by write (op.App o) = app_words_by write o
+op_words_by write (op.Call call) = call_words call
+
+-- ---- with words in width divided by 4 digits
+
+abbrev pub app_words : Width → AppOp → List (List ℕ)
+app_words width o = app_words_by (word_text width) o
+
+abbrev pub fault_words : Width → Fault → List (List ℕ)
+fault_words width fault = fault_words_by (word_text width) fault
+
+abbrev pub event_words : Width → Event → List (List ℕ)
+event_words width event = event_words_by (word_text width) event
+
 abbrev pub op_words : Width → HandlerOp → List (List ℕ)
-op_words width (op.App o) = app_words width o
-op_words width (op.Call call) = call_words call
+op_words width o = op_words_by (word_text width) o
 
 -- ---- spaces
 

@@ -9,3 +9,5 @@ pub mod Digits
 pub mod Trace
 pub mod Canonical
 pub mod Kinds
+pub mod TokenRules
+pub mod LineTokens

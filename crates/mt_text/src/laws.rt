@@ -11,7 +11,10 @@ ghost use Rattle.mt_text.specs.Accepted.{IsAccepted};
 ghost use Rattle.mt_text.specs.Canonical.{canonical};
 ghost use Rattle.mt_text.specs.Digits.{word_text};
 ghost use Rattle.mt_text.specs.Kinds.{IsOfKinds, bytes_of};
-ghost use Rattle.mt_text.specs.Lines.{line_of, Spells, SpellsTokens, Refuses, FirstBroken};
+ghost use Rattle.mt_text.specs.Forms.{Form, step};
+ghost use Rattle.mt_text.specs.LineTokens.{AreOfLine};
+ghost use Rattle.mt_text.specs.Lines.{line_of, Part, settled, Spells, SpellsTokens, Refuses, FirstBroken};
+ghost use Rattle.mt_text.specs.TokenRules.{token_rules, IsLeastBroken, BreaksNone};
 ghost use Rattle.mt_text.specs.Tokens.{Token, tokens, number_of, is_hex, hex, hex_of, upper};
 ghost use Rattle.mt_text.specs.Trace.{entry_text, entries_text};
 ghost use Rattle.mt_text.specs.declared.line.Line.{Line};
@@ -41,12 +44,26 @@ pub fn canonical_lines_spell_themselves()
         → Spells shape (canonical shape.width line) line }
 {}
 
+/// A text that spells a line has that line's tokens, but for the digits of words and brackets round an empty handler.
+pub fn spelled_lines_have_their_tokens()
+    ensures { (shape : Shape) (tokens : List Token) (line : Line) → SpellsTokens shape tokens line
+        → AreOfLine shape.width line (bytes_of tokens) }
+{}
+
 /// A refusal of a token is `Spelling` just where no line has, after the tokens before it, a token of its kind. The
 /// tokens of a line are of its kinds.
 pub fn spelling_is_a_token_of_no_line()
     ensures refused { (shape : Shape) (text : List ℕ) (e : LineRefusal) (b : FirstBroken shape (tokens 1 text) e)
         → (e.kind ≡ Spelling) ↔ ((rest : List (List ℕ)) → ¬ IsOfKinds (bytes_of b.before ++ b.token.bytes ∷ rest)) }
     ensures spelled { (shape : Shape) (tokens : List Token) (line : Line) → SpellsTokens shape tokens line → IsOfKinds (bytes_of tokens) }
+{}
+
+/// A refused token is told the least rule that it breaks of those of its place, and a token that is taken breaks none.
+pub fn the_least_rule_is_told()
+    ensures refused { (shape : Shape) (text : List ℕ) (e : LineRefusal) (b : FirstBroken shape (tokens 1 text) e)
+        → IsLeastBroken (token_rules shape b.form b.token.bytes) e.kind }
+    ensures taken { (shape : Shape) (form after : Form Part) (bytes : List ℕ) → step shape (settled form) bytes ≡ Ok after
+        → BreaksNone (token_rules shape form bytes) }
 {}
 
 /// A number has one spelling, its decimal digits.

@@ -80,6 +80,28 @@ pub enum LineKind {
     FaultRefused,
 }
 
+impl LineKind {
+    ghost use Rattle.std.specs.Prelude.{◌≡◌};
+    ghost use Rattle.mt_text.specs.TokenRules.{kind_number};
+
+    /// The number of the rule.
+    pub fn number(self) -> u8
+        ensures { result ≡ kind_number self }
+    {
+        match self {
+            LineKind::Spelling => 1,
+            LineKind::Number => 2,
+            LineKind::Address => 3,
+            LineKind::WordTooWide => 4,
+            LineKind::OffsetsFall => 5,
+            LineKind::TooManyRequests => 6,
+            LineKind::TooManyOps => 7,
+            LineKind::NotInHandler => 8,
+            LineKind::FaultRefused => 9,
+        }
+    }
+}
+
 /// The least rule that the first wrong token breaks, and the place of that token's first byte, counted from 1. Where
 /// the line ends too early it is `Spelling` at the line's length plus 1.
 #[derive(Clone, Copy, Debug, PartialEq, Eq)]

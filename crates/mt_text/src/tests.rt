@@ -329,28 +329,13 @@ fn shape(width: Width, flash: u32) -> Shape {
     }
 }
 
-/// The number of a rule.
-fn number(kind: LineKind) -> u32 {
-    match kind {
-        LineKind::Spelling => 1,
-        LineKind::Number => 2,
-        LineKind::Address => 3,
-        LineKind::WordTooWide => 4,
-        LineKind::OffsetsFall => 5,
-        LineKind::TooManyRequests => 6,
-        LineKind::TooManyOps => 7,
-        LineKind::NotInHandler => 8,
-        LineKind::FaultRefused => 9,
-    }
-}
-
 fn is_refused(text: &[u8], shape: Shape, rule: u32, place: u32) -> bool {
     if text.len() > 1024 {
         return false;
     }
     match read_line(text, shape) {
         Ok(_) => false,
-        Err(refusal) => number(refusal.kind) == rule && refusal.place == place,
+        Err(refusal) => u32::from(refusal.kind.number()) == rule && refusal.place == place,
     }
 }
 

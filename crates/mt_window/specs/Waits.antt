@@ -73,10 +73,19 @@ pub record IsServedWithin (made : List Attempt) (q : Request) (a : Attempt) (n :
   pub place : first_boundary made q.offset ≡ Some a.finish
   pub soon : a.finish - q.offset ≤ n
 
--- where attempts are dropped in time, an urgent request that meets one which might be dropped waits at most the words that it writes back
+-- an urgent request that meets an attempt which might be dropped waits at most the words that this writes back
+abbrev pub IsUrgentlyServed : List Attempt → Request → Type 0
+IsUrgentlyServed made q = q.urgent ≡ true → All (λ (a : Attempt). (n : ℕ) → a.restores ≡ Some n → FallsIn a q → IsServedWithin made q a n) made
+
+-- where attempts are dropped in time, each is so
 abbrev pub UrgentWaitsAreShortIn : {C X V : Type 0} → Running C X V → Type 0
-UrgentWaitsAreShortIn {C} r = (s : Scene C) → IsFresh s → All (λ (q : Request). q.urgent ≡ true
-    → All (λ (a : Attempt). (n : ℕ) → a.restores ≡ Some n → FallsIn a q → IsServedWithin (event_attempts r s) q a n) (event_attempts r s)) s.board.left
+UrgentWaitsAreShortIn {C} r = (s : Scene C) → IsFresh s → All (IsUrgentlyServed (event_attempts r s)) s.board.left
+
+-- where the requests of this call's events are served, and how long they wait
+pub record ServesInTime {C X V : Type 0} (r : Running C X V) : Type 0 where
+  pub places : ServesByOffset r
+  pub short : WaitsAreShortIn r
+  pub urgent : UrgentWaitsAreShortIn r
 
 -- an entry without what it tells: the number of a request, or an operation of one
 abbrev pub kinds : List Entry → List (Option ℕ)

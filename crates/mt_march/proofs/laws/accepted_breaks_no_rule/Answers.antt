@@ -1,4 +1,5 @@
-use Rattle.mt_march.proofs.Agreement.{accepted_breaks_no_rule, accepted_is_march}
+use Rattle.mt_march.proofs.Agreement.{accepted_is_march}
+use Rattle.mt_march.proofs.Refusals.{accepted_breaks_no_rule}
 use Rattle.mt_march.proofs.laws.accepted_breaks_no_rule.Goals as goal
 
 pub returns-clause-rules : goal.returns-clause-rules

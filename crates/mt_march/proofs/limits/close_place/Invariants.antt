@@ -1,5 +1,5 @@
 use Rattle.std.proofs.Common.{◌≡◌, ◌+◌, drop}
-use Rattle.mt_march.specs.Rules.{close_place}
+use Rattle.mt_march.specs.Scan.{close_place}
 use Rattle.mt_march.proofs.limits.close_place.Given as goal
 
 abbrev pub invariant-loop-i : goal.invariant-loop-i

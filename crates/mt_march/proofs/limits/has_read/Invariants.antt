@@ -1,5 +1,5 @@
 use Rattle.std.proofs.Common.{◌≡◌, drop}
-use Rattle.mt_march.specs.Rules.{has_read}
+use Rattle.mt_march.specs.Scan.{has_read}
 use Rattle.mt_march.proofs.limits.has_read.Given as goal
 
 abbrev pub invariant-loop-i : goal.invariant-loop-i

@@ -1,5 +1,5 @@
 use Rattle.std.proofs.Common.{◌≡◌, ◌+◌, drop}
-use Rattle.mt_march.specs.Rules.{read_before_write}
+use Rattle.mt_march.specs.Scan.{read_before_write}
 use Rattle.mt_march.proofs.limits.read_before_write.Given as goal
 
 abbrev pub invariant-loop-i : goal.invariant-loop-i

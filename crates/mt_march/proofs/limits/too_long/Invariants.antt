@@ -1,5 +1,5 @@
 use Rattle.std.proofs.Common.{◌≡◌, ◌+◌, ◌≤◌, drop}
-use Rattle.mt_march.specs.Rules.{too_long}
+use Rattle.mt_march.specs.Scan.{too_long}
 use Rattle.mt_march.proofs.limits.too_long.Given as goal
 
 abbrev pub invariant-loop-i : goal.invariant-loop-i

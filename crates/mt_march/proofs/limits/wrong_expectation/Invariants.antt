@@ -1,5 +1,5 @@
 use Rattle.std.proofs.Common.{◌≡◌, ◌+◌, drop}
-use Rattle.mt_march.specs.Rules.{wrong_expectation}
+use Rattle.mt_march.specs.Scan.{wrong_expectation}
 use Rattle.mt_march.proofs.limits.wrong_expectation.Given as goal
 
 abbrev pub invariant-loop-i : goal.invariant-loop-i

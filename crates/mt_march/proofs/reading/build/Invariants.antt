@@ -1,5 +1,5 @@
 use Rattle.std.proofs.Common.{◌≡◌, ◌+◌, ◌≤◌, length, drop, None}
-use Rattle.mt_march.specs.Rules.{too_long}
+use Rattle.mt_march.specs.Scan.{too_long}
 use Rattle.mt_march.specs.Value.{march_of, parts}
 use Rattle.mt_march.specs.Building.{element_count, finished}
 use Rattle.mt_march.proofs.reading.build.Given as goal
