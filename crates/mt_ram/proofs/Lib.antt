@@ -3,3 +3,4 @@ pub mod Sets
 pub mod Settings
 pub mod Walks
 pub mod Drops
+pub mod Marks

@@ -1,5 +1,5 @@
 -- The next slice of a walk, and the begin of a test.
-use Rattle.std.proofs.Common.{ℕ, suc, ◌*◌, ◌-◌, ◌<◌, ◌≤◌, ◌≡◌, List, [], ◌∷◌, take, length, Option, Some, None, refl, sym, ap, ◌∙◌, subst, arith}
+use Rattle.std.proofs.Common.{ℕ, Bool, suc, ◌*◌, ◌-◌, ◌<◌, ◌≤◌, ◌≡◌, List, [], ◌∷◌, take, length, Option, Some, None, refl, sym, ap, ◌∙◌, subst, arith}
 use Rattle.std.proofs.lemmas.List.{length-take-le}
 use Rattle.mt_port.specs.Board.{IsWithinLimits}
 use Rattle.mt_plan.specs.Plan.{IsAccepted}
@@ -18,11 +18,11 @@ use Rattle.mt_ram.specs.declared.state.State.TheVariants.{Partial}
 use Rattle.mt_ram.specs.declared.test_walk.Test.{Test}
 use Rattle.mt_ram.specs.declared.test_walk.TestWalk.{TestWalk}
 use Rattle.mt_ram.specs.declared.pass_walk.PassWalk.{PassWalk}
-use Rattle.mt_ram.specs.State.{RamTst, IsPlace, set_of, spans_in, piece_in}
+use Rattle.mt_ram.specs.State.{RamTst, IsPlace, IsFailureOfPass, set_of, spans_in, piece_in}
 use Rattle.mt_ram.specs.Table.{RamCell, row, in_state}
 use Rattle.mt_ram.specs.Event.{job_of}
 use Rattle.mt_ram.specs.PassWalks.{IsPassWalk, left_in_pass}
-use Rattle.mt_ram.specs.TestWalks.{IsTestWalk, Enters, service_of, is_whole, left_in_test, refused_walk, begun_walk, state_behind}
+use Rattle.mt_ram.specs.TestWalks.{IsTestWalk, CanGoBack, Enters, service_of, is_whole, left_in_test, refused_walk, begun_walk, state_behind}
 use Rattle.mt_ram.proofs.Sets.{accepted_spans}
 
 -- the front of a pass is the slice at its position, and then the front from the next one on
@@ -115,7 +115,7 @@ enters_refused name r why limits accepted e = record {
 -- a test that begins
 pub enters_begun : (name : Test) (r : RamTst) (from : Position) (inside back : State) (L : List Piece) → IsWithinLimits r.setting.shape → IsAcceptedSet r.setting.shape (set_of r)
     → row r (service_of name) ≡ Runs L (in_state inside) (in_state back) → IsValid (set_of r).atomic (spans_in r) from → test_from (is_whole name) (set_of r).atomic (spans_in r) from ≡ L
-    → word_count L ≤ 65536 * 64 → IsPlace (set_of r) back → Enters name r (in_state inside r) (begun_walk name from back)
+    → word_count L ≤ 65536 * 64 → CanGoBack (in_state inside r) back → Enters name r (in_state inside r) (begun_walk name from back)
 enters_begun name r from inside back L limits accepted e valid all few place = record {
   callee = sym (ap (λ (c : RamCell). inside_of c r) e);
   setting = refl;
@@ -124,7 +124,7 @@ enters_begun name r from inside back L limits accepted e valid all few place = r
     limits = limits;
     accepted = accepted;
     valid = λ p h. subst (IsValid (set_of r).atomic (spans_in r)) (let same : from ≡ p = cc in same) valid;
-    back = λ s h. subst (IsPlace (set_of r)) (let same : back ≡ s = cc in same) place;
+    back = λ s h. subst (CanGoBack (in_state inside r)) (let same : back ≡ s = cc in same) place;
   };
   left = all ∙ sym (ap (λ (c : RamCell). work_in c) e);
   failed = refl;
@@ -136,3 +136,7 @@ enters_begun name r from inside back L limits accepted e valid all few place = r
 pub place_behind : (set : ParamSet) (back : Option Position) → IsPlace set (Partial back) → IsPlace set (state_behind back)
 place_behind set None h = tt
 place_behind set (Some p) h = h
+
+pub failure_behind : (back : Option Position) (failed : Bool) → IsFailureOfPass (Partial back) failed → IsFailureOfPass (state_behind back) failed
+failure_behind None failed h = h
+failure_behind (Some p) failed h = h

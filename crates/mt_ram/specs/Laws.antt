@@ -1,17 +1,39 @@
 -- What running events and boundaries are known by.
-use Rattle.std.specs.Prelude.{ℕ, ◌≡◌, false}
+use Rattle.std.specs.Prelude.{ℕ, ◌≡◌, Bool, true, false, None}
+use Rattle.mt_plan.specs.Plan.{IsAccepted}
+use Rattle.mt_port.specs.Board.{Board}
 use Rattle.mt_window.specs.Serving.{Scene, serve_due, serve_left}
-use Rattle.mt_window.specs.Events.{Running as Events, event}
+use Rattle.mt_window.specs.Slices.{Tests, slices}
+use Rattle.mt_window.specs.Rows.{work_in}
+use Rattle.mt_window.specs.Events.{Running as Events, entered, ran, event}
 use Rattle.mt_window.specs.Waits.{ServesInTime}
 use Rattle.mt_seq.specs.declared.sequence.Verdict.{Verdict}
 use Rattle.mt_blocks.specs.Slices.{Piece}
-use Rattle.mt_ram.specs.State.{RamTst, IsRunning, IsInside}
-use Rattle.mt_ram.specs.Table.{Service, after, ram_table}
-use Rattle.mt_ram.specs.Event.{partial_test}
+use Rattle.mt_ram.specs.State.{RamTst, set_of, IsRunning, IsInside}
+use Rattle.mt_ram.specs.Table.{Service, MainFunction, row, after, ram_table}
+use Rattle.mt_ram.specs.Event.{attempt_at, of_pass, ticking, partial_test}
 
 -- of each partial test
 abbrev pub PartialTestsServeInTime : Type 0
 PartialTestsServeInTime = (block : ℕ) → ServesInTime (partial_test block)
+
+-- on a board without a fault an attempt that is dropped leaves the words as they were
+abbrev pub DroppedAttemptsLeaveWords : Type 0
+DroppedAttemptsLeaveWords = (may : Bool) (r : RamTst) (p : Piece) (b : Board) → b.fault ≡ None → IsAccepted (set_of r).alg
+    → (attempt_at may r p b).verdict ≡ None → (attempt_at may r p b).words ≡ b.words
+
+-- a tick that no mark stops
+abbrev pub unstopped : Tests RamTst Piece Verdict
+unstopped = record of_pass { stops = λ r. false }
+
+-- a tick tests nothing where just after boundary 0 the module isn't RUNNING, or the mark is set
+abbrev pub TicksRest : Type 0
+TicksRest = (o : Scene RamTst) → (IsRunning o.callee.state → o.callee.mark ≡ true) → ran ticking o ≡ entered ticking o
+
+-- and it ends its group early only where the mark is set
+abbrev pub TicksEndTheirGroup : Type 0
+TicksEndTheirGroup = (o : Scene RamTst) → (ran ticking o).scene.callee.mark ≡ false
+    → ran ticking o ≡ slices unstopped (work_in (row o.callee MainFunction)) (entered ticking o)
 
 -- What handlers' calls leave of RamTst. Setting, selected set, number of cells and results stay. Where no Stop and no
 -- Suspend was accepted, a running pass goes on where it stood. Inside a full or partial test nothing changes.

@@ -1,5 +1,5 @@
 -- RamTst as a contract sees it.
-use Rattle.std.specs.Prelude.{ℕ, ◌<◌, ◌≤◌, ◌≡◌, Bool, List, length, Some, None}
+use Rattle.std.specs.Prelude.{ℕ, ◌<◌, ◌≤◌, ◌≡◌, Bool, false, List, length, Some, None}
 use Rattle.mt_port.specs.declared.board.Shape.{Shape}
 use Rattle.mt_window.specs.declared.reply.TestResult.{TestResult}
 use Rattle.mt_blocks.specs.declared.span.Span.{Span}
@@ -50,6 +50,16 @@ IsPlace set Full = Unit {0}
 IsPlace set (Partial None) = Unit {0}
 IsPlace set (Partial (Some p)) = IsValid set.atomic (spans_of set.blocks) p
 
+-- a failure is kept only for a pass: one that runs, is suspended, or is interrupted by a partial test
+abbrev pub IsFailureOfPass : State → Bool → Type 0
+IsFailureOfPass Uninit failed = failed ≡ false
+IsFailureOfPass Stopped failed = failed ≡ false
+IsFailureOfPass (Running p) failed = Unit {0}
+IsFailureOfPass (Suspended p) failed = Unit {0}
+IsFailureOfPass Full failed = failed ≡ false
+IsFailureOfPass (Partial None) failed = failed ≡ false
+IsFailureOfPass (Partial (Some p)) failed = Unit {0}
+
 -- the states of a running pass, and inside a full or partial test
 abbrev pub IsRunning : State → Type 0
 IsRunning Uninit = ⊥
@@ -73,5 +83,6 @@ pub record IsRam (r : RamTst) : Type 0 where
   pub selected : r.selected < length r.setting.config.sets
   pub results : length r.results ≡ length (set_of r).blocks
   pub place : IsPlace (set_of r) r.state
+  pub failure : IsFailureOfPass r.state r.failed
   pub low : (set_of r).atomic ≤ r.cells
   pub high : r.cells ≤ 65536

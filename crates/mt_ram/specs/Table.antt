@@ -178,7 +178,12 @@ handled calls.RamResume = Some Resume
 handled calls.RamGetExecutionStatus = Some GetExecutionStatus
 handled calls.RamGetTestResult = Some GetTestResult
 handled (calls.RamGetTestResultPerBlock block) = Some (GetTestResultPerBlock block)
-handled _ = None
+handled calls.FlsSuspend = None
+handled calls.FlsResume = None
+handled calls.FlsAbort = None
+handled calls.FlsGetCurrentState = None
+handled calls.FlsGetTestResultBgnd = None
+handled calls.FlsGetTestResultFgnd = None
 
 abbrev pub handler_reply : RamTst → Option Service → Reply
 handler_reply r None = reply.Done

@@ -18,7 +18,7 @@ use Rattle.mt_ram.specs.declared.test_walk.Test.TheVariants as tests
 use Rattle.mt_ram.specs.declared.test_walk.TestWalk.{TestWalk}
 use Rattle.mt_ram.specs.declared.state.State.{State}
 use Rattle.mt_ram.specs.declared.state.State.TheVariants.{Stopped, Suspended, Full, Partial}
-use Rattle.mt_ram.specs.State.{RamTst, IsPlace, set_of, spans_in}
+use Rattle.mt_ram.specs.State.{RamTst, IsPlace, IsFailureOfPass, IsInside, set_of, spans_in}
 use Rattle.mt_ram.specs.Table.{Service, RunFullTest, RunPartialTest, RamCell, row, in_state, testing, ram_table}
 use Rattle.mt_ram.specs.Event.{of_test, running}
 use Rattle.mt_ram.specs.Moves.{row-moves}
@@ -41,12 +41,18 @@ is_whole (tests.Block block) = false
 abbrev pub left_in_test : TestWalk → RamTst → List Piece
 left_in_test w r = test_rest (is_whole w.name) (set_of r).atomic (spans_in r) w.next
 
+-- a module inside a test that can go back to a state
+pub record CanGoBack (r : RamTst) (s : State) : Type 0 where
+  pub inside : IsInside r.state
+  pub place : IsPlace (set_of r) s
+  pub failure : IsFailureOfPass s r.failed
+
 -- a walk of that module, whose configuration is accepted
 pub record IsTestWalk (w : TestWalk) (r : RamTst) : Type 0 where
   pub limits : IsWithinLimits r.setting.shape
   pub accepted : IsAcceptedSet r.setting.shape (set_of r)
   pub valid : (p : Position) → w.next ≡ Some p → IsValid (set_of r).atomic (spans_in r) p
-  pub back : (s : State) → w.entered.back ≡ Some s → IsPlace (set_of r) s
+  pub back : (s : State) → w.entered.back ≡ Some s → CanGoBack r s
 
 -- the cell of a full test that is refused or not, and of a partial one that may interrupt a suspended pass
 abbrev pub full_cell : RamTst → Option Refusal → RamCell
@@ -64,6 +70,10 @@ block_cell r block (Ok back) = testing r block (Partial back) (state_behind back
 abbrev pub IsWay : ParamSet → Result (Option Position) Refusal → Type 0
 IsWay set (Err why) = Unit {0}
 IsWay set (Ok back) = IsPlace set (Partial back)
+
+abbrev pub IsFailureOfWay : Result (Option Position) Refusal → Bool → Type 0
+IsFailureOfWay (Err why) failed = Unit {0}
+IsFailureOfWay (Ok back) failed = IsFailureOfPass (Partial back) failed
 
 -- a test that is refused, and one that begins
 abbrev pub refused_walk : Test → Refusal → TestWalk
@@ -93,7 +103,7 @@ test_handled w r call f =
       limits = subst (λ (x : RamTst). IsWithinLimits x.setting.shape) (sym moved) f.limits;
       accepted = subst (λ (x : RamTst). IsAcceptedSet x.setting.shape (set_of x)) (sym moved) f.accepted;
       valid = λ p e. subst (λ (x : RamTst). IsValid (set_of x).atomic (spans_in x) p) (sym moved) (f.valid p e);
-      back = λ s e. subst (λ (x : RamTst). IsPlace (set_of x) s) (sym moved) (f.back s e);
+      back = λ s e. let h = f.back s e in subst (λ (x : RamTst). CanGoBack x s) (sym (m.inside h.inside)) h;
     }
 
 pub test_handled_left : (w : TestWalk) (r : RamTst) (call : HandlerCall) → left_in_test w (ram_table.next r call) ≡ left_in_test w r

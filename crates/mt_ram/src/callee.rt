@@ -29,7 +29,12 @@ impl Callee for Ram {
             HandlerCall::RamGetExecutionStatus => self.get_execution_status(),
             HandlerCall::RamGetTestResult => self.get_test_result(),
             HandlerCall::RamGetTestResultPerBlock(block) => self.get_test_result_per_block(block),
-            _ => Reply::Done,
+            HandlerCall::FlsSuspend
+            | HandlerCall::FlsResume
+            | HandlerCall::FlsAbort
+            | HandlerCall::FlsGetCurrentState
+            | HandlerCall::FlsGetTestResultBgnd
+            | HandlerCall::FlsGetTestResultFgnd => Reply::Done,
         }
     }
 

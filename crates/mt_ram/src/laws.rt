@@ -2,12 +2,12 @@
 
 ghost use Rattle.mt_ram.specs.Event.{ticking, full_test};
 ghost use Rattle.mt_window.specs.Waits.{ServesInTime};
-ghost use Rattle.mt_ram.specs.Laws.{PartialTestsServeInTime, BoundariesMove, RequestsLeftMove, ServicesLeaveSetting};
+ghost use Rattle.mt_ram.specs.Laws.{PartialTestsServeInTime, DroppedAttemptsLeaveWords, TicksRest, TicksEndTheirGroup, BoundariesMove, RequestsLeftMove, ServicesLeaveSetting};
 
 use crate::pass_walk::PassWalk;
 use crate::state::Ram;
 use crate::test_walk::TestWalk;
-use mt_seq::urgent_requests_wait_shortly;
+use mt_seq::{attempts_on_sound_memory, urgent_requests_wait_shortly};
 use mt_window::{requests_are_served, waits_are_short};
 
 /// Each request of a running event is served where its offset says, and waits 0 or less than the length of the attempt
@@ -23,6 +23,19 @@ pub fn waits_of_running_calls()
     requests_are_served::<Ram, TestWalk>();
     waits_are_short::<Ram, TestWalk>();
 }
+
+/// On a board without a fault an attempt that is dropped leaves the words as they were.
+pub fn dropped_attempts_leave_words()
+    ensures { DroppedAttemptsLeaveWords }
+{
+    attempts_on_sound_memory();
+}
+
+/// When a tick tests nothing, and when it ends its group early.
+pub fn ticks_end_by_the_mark()
+    ensures rest { TicksRest }
+    ensures group { TicksEndTheirGroup }
+{}
 
 /// What handlers' calls leave of the module.
 pub fn handlers_leave_results()

@@ -39,7 +39,7 @@ fn idle(decision: Decision) -> PassWalk
 
 impl Ram {
     // How many slices the group at a position has.
-    fn group_at(&self, at: Position) -> u32
+    fn slices_in_group(&self, at: Position) -> u32
         requires { IsValid (set_of self.now).atomic (spans_in self.now) at }
         ensures len { result ≡ group_len self.now.cells (from_place (set_of self.now).atomic (spans_in self.now) at) }
         ensures few { result ≤ 65536 }
@@ -102,7 +102,7 @@ impl Walk<Ram> for PassWalk {
         match callee.state() {
             State::Running { at } => PassWalk {
                 at,
-                len: callee.group_at(at),
+                len: callee.slices_in_group(at),
                 entered: Entered {
                     decision: Decision::Run,
                     back: None,

@@ -11,14 +11,16 @@ use mt_window::TestResult;
 pub(crate) fn next_result(old: TestResult, verdict: Verdict, failed: bool, last: bool) -> TestResult
     ensures { result ≡ result_after old verdict failed last }
 {
-    match (verdict, last, old) {
-        (Verdict::Fail, _, _) => TestResult::NotOk,
-        (Verdict::Pass, true, _) => last_result(failed),
-        (Verdict::Pass, false, TestResult::NotTested) => TestResult::Undefined,
-        (Verdict::Pass, false, TestResult::Ok) => TestResult::Ok,
-        (Verdict::Pass, false, TestResult::NotOk) => TestResult::NotOk,
-        (Verdict::Pass, false, TestResult::Undefined) => TestResult::Undefined,
+    if is_fail(verdict) {
+        return TestResult::NotOk;
     }
+    if last {
+        return last_result(failed);
+    }
+    if is(TestResult::NotTested, old) {
+        return TestResult::Undefined;
+    }
+    old
 }
 
 // The result at the end of a last slice that passes.

@@ -5,7 +5,7 @@ ghost use Rattle.mt_window.specs.declared.reply.TestResult.TheVariants.{NotTeste
 ghost use Rattle.mt_port.specs.Board.{IsWithinLimits};
 ghost use Rattle.mt_blocks.specs.Slices.{AreSpans};
 ghost use Rattle.mt_blocks.specs.Accepted.{IsAcceptedRam, IsAcceptedSet, set_at, spans_of};
-ghost use Rattle.mt_ram.specs.State.{RamTst, IsPlace, set_of};
+ghost use Rattle.mt_ram.specs.State.{RamTst, IsPlace, IsFailureOfPass, set_of};
 ghost use Rattle.mt_ram.specs.Table.{selected};
 
 use arrayvec::ArrayVec;
@@ -127,13 +127,15 @@ impl Ram {
     pub(crate) fn state(&self) -> State
         ensures state { result ≡ self.now.state }
         ensures place { IsPlace (set_of self.now) result }
+        ensures failure { IsFailureOfPass result self.now.failed }
     {
         self.state
     }
 
     /// The module in STOPPED, with that set.
     pub(crate) fn select(&mut self, set: u32)
-        requires { set < length self.old.setting.config.sets }
+        requires set { set < length self.old.setting.config.sets }
+        requires failure { self.old.failed ≡ false }
         ensures { self.new ≡ record (selected self.old set) { state = State.Stopped } }
     {
         let chosen = &self.config.sets.as_slice()[set as usize];

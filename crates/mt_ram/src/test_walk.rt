@@ -1,9 +1,9 @@
 //! The walk of a full or partial test.
 
-ghost use Rattle.std.specs.Prelude.{◌≡◌, Ok, nat_lt, length};
-ghost use Rattle.mt_ram.specs.State.{IsPlace, set_of};
+ghost use Rattle.std.specs.Prelude.{◌≡◌, None, Ok, nat_lt, length};
+ghost use Rattle.mt_ram.specs.State.{IsPlace, IsFailureOfPass, set_of};
 ghost use Rattle.mt_ram.specs.Table.{RunFullTest, RunPartialTest, cell, row, in_state};
-ghost use Rattle.mt_ram.specs.TestWalks.{is_whole, full_cell, block_cell, state_behind, IsWay, refused_walk, begun_walk, Enters};
+ghost use Rattle.mt_ram.specs.TestWalks.{is_whole, full_cell, block_cell, state_behind, IsWay, IsFailureOfWay, refused_walk, begun_walk, Enters};
 
 use crate::running::{Decision, Entered};
 use crate::state::{Ram, State};
@@ -40,7 +40,8 @@ fn is_whole(test: Test) -> bool
 
 // Why a full test is refused.
 fn refusal_of_full(state: State) -> Option<Refusal>
-    ensures { (r : _) → cell r RunFullTest state ≡ full_cell r result }
+    ensures cell { (r : _) → cell r RunFullTest state ≡ full_cell r result }
+    ensures stopped { result ≡ None → state ≡ State.Stopped }
 {
     match state {
         State::Stopped => None,
@@ -55,6 +56,7 @@ fn refusal_of_full(state: State) -> Option<Refusal>
 fn way_of_block(state: State) -> Result<Option<Position>, Refusal>
     ensures cell { (r : _) (block : _) → cell r (RunPartialTest block) state ≡ block_cell r block result }
     ensures place { (set : _) → IsPlace set state → IsWay set result }
+    ensures failure { (failed : _) → IsFailureOfPass state failed → IsFailureOfWay result failed }
 {
     match state {
         State::Stopped => Ok(None),
@@ -112,7 +114,8 @@ impl Ram {
 
     // Changes the state alone.
     fn set_state(&mut self, state: State)
-        requires { IsPlace (set_of self.old) state }
+        requires place { IsPlace (set_of self.old) state }
+        requires failure { IsFailureOfPass state self.old.failed }
         ensures { self.new ≡ in_state state self.old }
     {
         self.state = state;
@@ -139,6 +142,7 @@ impl Ram {
     fn enter_way(&mut self, block: u32, back: Option<Position>) -> TestWalk
         requires cell { row self.old (RunPartialTest block) ≡ block_cell self.old block (Ok back) }
         requires place { IsPlace (set_of self.old) (State.Partial back) }
+        requires failure { IsFailureOfPass (State.Partial back) self.old.failed }
         ensures { Enters (Test.Block block) self.old self.new result }
     {
         passes_begin();

@@ -6,6 +6,7 @@ use Rattle.mt_port.specs.declared.board.Touch.{Touch}
 use Rattle.mt_port.specs.Board.{Logs}
 use Rattle.mt_port.proofs.StreamLemmas.{Logs-nil, Logs-append}
 use Rattle.mt_window.specs.Serving.{Scene, scene, serve_due}
+use Rattle.mt_window.specs.Kept.{tried-stopped, slices-stopped}
 use Rattle.mt_window.specs.Slices.{Tests, Trail, Attempt, attempted, taken_by, failed_by, next_attempt, kept_attempt, after_attempt, tried, slices}
 
 -- what is left to do, where so many attempts at the first slice may still be dropped
@@ -16,16 +17,6 @@ resumed t n (x ∷ more) g = slices t more (tried t n x g)
 pub resumed-start : {C X V : Type 0} (t : Tests C X V) (L : List X) (g : Trail C) → resumed t (t.retries g.scene.callee) L g ≡ slices t L g
 resumed-start t [] g = refl
 resumed-start t (x ∷ more) g = refl
-
--- a module that is stopped goes no further
-tried-stopped : {C X V : Type 0} (t : Tests C X V) (n : ℕ) (x : X) (g : Trail C) → t.stops g.scene.callee ≡ true → tried t n x g ≡ g
-tried-stopped t zero x g e = ap (λ (b : Bool). cond b g (after_attempt t false g x)) e
-tried-stopped t (suc n) x g e =
-    ap (λ (b : Bool). cond b g (cond (is_some (next_attempt t true g x).verdict) (after_attempt t true g x) (tried t n x (after_attempt t true g x)))) e
-
-slices-stopped : {C X V : Type 0} (t : Tests C X V) (L : List X) (g : Trail C) → t.stops g.scene.callee ≡ true → slices t L g ≡ g
-slices-stopped t [] g e = refl
-slices-stopped t (x ∷ more) g e = ap (slices t more) (tried-stopped t (t.retries g.scene.callee) x g e) ∙ slices-stopped t more g e
 
 resumed-stopped : {C X V : Type 0} (t : Tests C X V) (n : ℕ) (L : List X) (g : Trail C) → t.stops g.scene.callee ≡ true → resumed t n L g ≡ g
 resumed-stopped t n [] g e = refl

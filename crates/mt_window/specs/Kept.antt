@@ -1,6 +1,7 @@
 -- Relations between a module before and after that each of its steps keeps: the serving of requests and events keep them too.
 -- These are lemmas for the crates above; no contract cites them.
-use Rattle.std.specs.Prelude.{ℕ, zero, suc, Bool, true, false, cond, is_some, List, [], ◌∷◌, ◌-◌, Option, Some, None, leb}
+use Rattle.std.specs.Prelude.{◌≡◌, ℕ, zero, suc, Bool, true, false, cond, is_some, List, [], ◌∷◌, ◌-◌, Option, Some, None, leb}
+use Rattle.std.proofs.Common.{refl, ap, ◌∙◌}
 use Rattle.mt_port.specs.declared.request.HandlerCall.{HandlerCall}
 use Rattle.mt_port.specs.declared.request.HandlerOp.{HandlerOp}
 use Rattle.mt_port.specs.declared.request.HandlerOp.TheVariants.{App, Call}
@@ -39,6 +40,16 @@ pub left_served-moves : {C : Type 0} (t : Table C) (R : C → C → Type 0) → 
 left_served-moves t R k [] s = k.none s.callee
 left_served-moves t R k (r ∷ rs) s =
     k.both s.callee ((served t r 0 s).callee) _ (operated_all-moves t R k r.ops.items _) (left_served-moves t R k rs (served t r 0 s))
+
+-- a module that is stopped goes no further
+pub tried-stopped : {C X V : Type 0} (t : Tests C X V) (n : ℕ) (x : X) (g : Trail C) → t.stops g.scene.callee ≡ true → tried t n x g ≡ g
+tried-stopped t zero x g e = ap (λ (b : Bool). cond b g (after_attempt t false g x)) e
+tried-stopped t (suc n) x g e =
+    ap (λ (b : Bool). cond b g (cond (is_some (next_attempt t true g x).verdict) (after_attempt t true g x) (tried t n x (after_attempt t true g x)))) e
+
+pub slices-stopped : {C X V : Type 0} (t : Tests C X V) (L : List X) (g : Trail C) → t.stops g.scene.callee ≡ true → slices t L g ≡ g
+slices-stopped t [] g e = refl
+slices-stopped t (x ∷ more) g e = ap (slices t more) (tried-stopped t (t.retries g.scene.callee) x g e) ∙ slices-stopped t more g e
 
 -- what each attempt keeps is kept by slices
 pub tried-keeps : {C X V : Type 0} (t : Tests C X V) (P : Trail C → Type 0) → ((may : Bool) (x : X) (g : Trail C) → P g → P (after_attempt t may g x)) → (n : ℕ) (x : X) (g : Trail C) → P g → P (tried t n x g)

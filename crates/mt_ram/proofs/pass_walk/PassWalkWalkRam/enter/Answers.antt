@@ -13,5 +13,5 @@ returns-in-Running-clause-fits c =
       limits = c.set-set.ensures.limits;
       accepted = subst (IsAcceptedSet r.setting.shape) c.set-set.ensures.set c.set-set.ensures.accepted;
       valid = λ some. subst (IsPlace (set_of r)) c.in-Running.is c.state.ensures.place;
-      few = omega (arith, c.group_at.ensures.len, fit);
+      few = omega (arith, c.slices_in_group.ensures.len, fit);
     }

@@ -13,7 +13,7 @@ use Rattle.mt_ram.specs.State.{RamTst, set_of, spans_in}
 use Rattle.mt_ram.specs.Table.{in_state}
 use Rattle.mt_ram.specs.TestWalks.{Enters, begun_walk, state_behind}
 use Rattle.mt_ram.proofs.Sets.{accepted_spans}
-use Rattle.mt_ram.proofs.Walks.{enters_refused, enters_begun, place_behind}
+use Rattle.mt_ram.proofs.Walks.{enters_refused, enters_begun, place_behind, failure_behind}
 use Rattle.mt_ram.proofs.state.Ram.enter_way.Goals as goal
 
 pub returns-then-not-has_block : goal.returns-then-not-has_block
@@ -43,4 +43,4 @@ returns c =
     (sym (c.begun.ensures ∙ ap (λ (s : State). begun_walk (tests.Block i) (record { block = i; offset = 0 }) s) c.state_behind.ensures))
     (enters_begun (tests.Block i) r (record { block = i; offset = 0 }) (Partial back) (state_behind back) L c.set-set.ensures.limits accepted
     (c.requires.cell ∙ ap (λ (b : Bool). cond b (Runs L (in_state (Partial back)) (in_state (state_behind back))) (Refuses refusal.Range)) there)
-    begins.valid begins.block (omega (arith, begins.few)) (place_behind (set_of r) back c.requires.place)))
+    begins.valid begins.block (omega (arith, begins.few)) (record { inside = tt; place = place_behind (set_of r) back c.requires.place; failure = failure_behind back r.failed c.requires.failure })))

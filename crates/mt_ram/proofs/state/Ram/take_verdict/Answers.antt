@@ -14,6 +14,7 @@ invariant_of-self c =
       selected = inv.selected;
       results = inv.results;
       place = subst (λ (set : ParamSet). IsValid set.atomic (spans_of set.blocks) c.place_after-next.result) (sym same) c.place_after-next.ensures.valid;
+      failure = tt;
       low = inv.low;
       high = inv.high;
     }

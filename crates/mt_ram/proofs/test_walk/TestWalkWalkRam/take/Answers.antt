@@ -5,9 +5,9 @@ use Rattle.mt_blocks.specs.declared.pass.Position.{Position}
 use Rattle.mt_blocks.specs.Slices.{Piece, IsValid, test_rest, next_in}
 use Rattle.mt_blocks.specs.Laws.{word_count}
 use Rattle.mt_blocks.specs.Accepted.{IsAcceptedSet}
-use Rattle.mt_ram.specs.State.{RamTst, IsPlace, set_of, spans_in}
+use Rattle.mt_ram.specs.State.{RamTst, set_of, spans_in}
 use Rattle.mt_ram.specs.Event.{with_result, of_test, job_of}
-use Rattle.mt_ram.specs.TestWalks.{is_whole}
+use Rattle.mt_ram.specs.TestWalks.{CanGoBack, is_whole}
 use Rattle.mt_ram.proofs.Walks.{next_of_test, first_is, rest_is, hold_of_piece}
 use Rattle.mt_ram.proofs.test_walk.TestWalkWalkRam.take.Goals as goal
 
@@ -25,7 +25,7 @@ returns-clause-fits c =
       limits = subst (λ (y : RamTst). IsWithinLimits y.setting.shape) (sym e) f.limits;
       accepted = subst (λ (y : RamTst). IsAcceptedSet y.setting.shape (set_of y)) (sym e) f.accepted;
       valid = λ p h. subst (λ (y : RamTst). IsValid (set_of y).atomic (spans_in y) p) (sym e) (n.goes.next (is_whole w.name) p (sym next ∙ h));
-      back = λ s h. subst (λ (y : RamTst). IsPlace (set_of y) s) (sym e) (f.back s h);
+      back = λ s h. let k = f.back s h in subst (λ (y : RamTst). CanGoBack y s) (sym e) (record { inside = k.inside; place = k.place; failure = k.failure });
     }
 
 pub returns-clause-left : goal.returns-clause-left
