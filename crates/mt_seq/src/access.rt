@@ -25,7 +25,8 @@ impl Access {
         requires inside { place_of self < (P.state port.old).shape.ram }
         requires fits { FitsAccess (P.state port.old).shape.width self }
         requires room { (P.state port.old).count + 1 < 2 ^ 32 }
-        ensures made { Makes (item_of_access self ∷ []) (P.state port.old) (P.state port.new) (P.tape port.old) (P.tape port.new) (agreed (item_of_access self) result) }
+        ensures made { Makes (item_of_access self ∷ []) (P.state port.old) (P.state port.new) (P.tape port.old) (P.tape port.new)
+            (agreed (item_of_access self) result) }
         ensures looked { IsLookAnswer (P.state port.old) (item_of_access self) result }
     {
         match self {

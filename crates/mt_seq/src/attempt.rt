@@ -80,7 +80,8 @@ fn make_whole<P: Port>(port: &mut P, alg: &Algorithm, frame: Frame, slice: Slice
     requires job { IsSoundJob (P.state port.old).shape.width (job_of alg.now frame) }
     requires slice { IsSoundSlice (P.state port.old).shape.ram slice }
     requires room { (P.state port.old).count + sequence_hold (job_of alg.now frame) slice.n < 2 ^ 32 }
-    ensures { Makes (sequence (P.state port.old) (job_of alg.now frame) slice) (P.state port.old) (P.state port.new) (P.tape port.old) (P.tape port.new) result }
+    ensures { Makes (sequence (P.state port.old) (job_of alg.now frame) slice)
+        (P.state port.old) (P.state port.new) (P.tape port.old) (P.tape port.new) result }
 {
     let mut course = Course::new(alg, frame, slice);
     let hold = hold_of(alg, frame.policy, u32::from(slice.n));
@@ -201,6 +202,27 @@ mod tests {
             read, zero, read, one, read, zero, read, one, read, zero, read, zero,
         ];
         assert_eq!(rt; board.tape().ok_or("told")?, want.as_slice());
+        Ok(())
+    }
+
+    #[test]
+    #[tactic(auto, unfolding(mt_port::specs::Board::powered_up))]
+    fn an_attempt_without_requests_is_whole(rt: HostRuntime) -> Result<(), Fail> {
+        let shape = Shape {
+            width: Width::W8,
+            ram: 10,
+            flash: 0,
+        };
+        let mut board = PlainBoard::new(rt.alloc(), shape, 0).ok().ok_or("memory")?;
+        let frame = Frame {
+            policy: Policy::NonDestructive,
+            background: 0,
+            fill: 0,
+        };
+        let slice = Slice { first: 2, n: 3 };
+        let verdict = try_slice(&mut board, &Algorithm::Checkerboard, frame, slice, true);
+        assert_eq!(rt; verdict, Some(Verdict::Pass));
+        assert_eq!(rt; board.made(), 18);
         Ok(())
     }
 }
