@@ -16,7 +16,8 @@ use Rattle.mt_march.specs.Accepted.{IsAcceptedMarch}
 use Rattle.mt_plan.specs.declared.algorithm.Act.{Act}
 use Rattle.mt_plan.specs.declared.algorithm.Step.{Step}
 use Rattle.mt_plan.specs.declared.algorithm.Algorithm.TheVariants.{Checkerboard, March as Marches, WalkPath, Galpat, TransparentGalpat}
-use Rattle.mt_plan.specs.Lists.{cells, step, is_odd, write_act, read_act, march_on, walk_on, galpat_on, checkerboard_on}
+use Rattle.mt_fault.specs.Faulty.{is_odd}
+use Rattle.mt_plan.specs.Lists.{cells, step, write_act, read_act, march_on, walk_on, galpat_on, checkerboard_on}
 use Rattle.mt_plan.specs.Plan.{steps_of}
 use Rattle.mt_cover.specs.declared.class.Class.TheVariants as classes
 use Rattle.mt_cover.specs.Coverage.{class_of, IsWalkTabled, HasOneWord, Coverage}

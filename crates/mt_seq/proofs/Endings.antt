@@ -9,7 +9,6 @@ use Rattle.mt_plan.specs.Plan.{steps_of}
 use Rattle.mt_seq.specs.declared.course.Course.{Course}
 use Rattle.mt_seq.specs.declared.sequence.Job.{Job}
 use Rattle.mt_seq.specs.declared.sequence.Verdict.{Verdict}
-use Rattle.mt_seq.specs.declared.stepper.Progress.{Progress}
 use Rattle.mt_seq.specs.declared.stepper.Progress.TheVariants.{More, Ended}
 use Rattle.mt_seq.specs.Sequence.{sequence, sequence_hold, sequence_verdict, verdict_of}
 use Rattle.mt_seq.specs.Stepping.{Stepping, progress_of, view_of, IsCourse}

@@ -1,6 +1,6 @@
 -- The first moment at which a condition holds.
-use Rattle.std.proofs.Common.{ℕ, zero, suc, ◌≡◌, ◌+◌, ◌-◌, ◌<◌, ◌≤◌, Bool, true, false, List, [], ◌∷◌, refl, arith, ap, sym, ◌∙◌, subst, Option, Some, None, inl, inr, ◌⊎◌}
-use Rattle.std.specs.Prelude.{find, nat_le, if◌then◌else◌}
+use Rattle.std.proofs.Common.{ℕ, zero, suc, ◌≡◌, ◌+◌, ◌-◌, ◌<◌, ◌≤◌, Bool, true, false, List, [], ◌∷◌, refl, arith, ap, sym, ◌∙◌, Option, Some, None, inl, inr, ◌⊎◌}
+use Rattle.std.specs.Prelude.{find, if◌then◌else◌}
 use Rattle.std.specs.List.{range_with_len}
 use Rattle.std.proofs.lemmas.Bool.{cases_eq, le-leb, lt-leb}
 use Rattle.mt_port.specs.Board.{is_due}
@@ -41,11 +41,11 @@ found p a (suc m) i e =
     elim (either (p a)) [
       | inl yes' ↦ (let same : a ≡ i = cc (rw yes' at e) in record { from = omega arith; to = omega arith; before = λ j f t. absurd (omega arith); here = ap p (sym same) ∙ yes' })
       | inr not' ↦ (let more : IsFirst p (a + 1) m i = found p (a + 1) m i (rw not' at e) in record {
-          from = omega (arith, more.from);
-          to = omega (arith, more.to);
-          before = λ j f t. elim (cases_eq a j) [ inl same ↦ ap p (sym same) ∙ not' | inr other ↦ more.before j (omega arith) t ];
-          here = more.here;
-        })
+        from = omega (arith, more.from);
+        to = omega (arith, more.to);
+        before = λ j f t. elim (cases_eq a j) [ inl same ↦ ap p (sym same) ∙ not' | inr other ↦ more.before j (omega arith) t ];
+        here = more.here;
+      })
     ]
 
 pub not_found : (p : ℕ → Bool) (a m : ℕ) → find p (range_with_len a m) ≡ None → (j : ℕ) → a ≤ j → j < a + m → p j ≡ false

@@ -1,11 +1,9 @@
 -- The next access of a course, and what the course is after it.
-use Rattle.std.proofs.Common.{ℕ, ◌≡◌, ◌+◌, ◌-◌, ◌<◌, ◌≤◌, Bool, true, false, List, [], ◌∷◌, ◌++◌, map, length, length-append, refl, arith, ap, sym, ◌∙◌, subst, Some, inl, inr}
+use Rattle.std.proofs.Common.{ℕ, ◌≡◌, ◌+◌, ◌-◌, ◌<◌, ◌≤◌, Bool, true, false, List, [], ◌∷◌, ◌++◌, length, length-append, refl, arith, ap, sym, ◌∙◌, Some}
 use Rattle.std.specs.Prelude.{not, slice_get}
 use mathlib.Core.Bool.{◌||◌}
-use Rattle.std.proofs.lemmas.Bool.{cases_lt}
 use Rattle.mt_word.specs.declared.Width.{Width}
 use Rattle.mt_fault.specs.Items.{Item, Look, Check, Store}
-use Rattle.mt_plan.specs.declared.algorithm.Algorithm.{Algorithm}
 use Rattle.mt_plan.specs.declared.algorithm.Policy.{Policy}
 use Rattle.mt_plan.specs.declared.algorithm.Policy.TheVariants.{NonDestructive, Destructive}
 use Rattle.mt_plan.specs.declared.algorithm.Step.{Step}
@@ -19,9 +17,9 @@ use Rattle.mt_plan.proofs.Items.{in_front, behind, at_map, at_cells}
 use Rattle.mt_seq.specs.declared.course.Course.{Course}
 use Rattle.mt_seq.specs.declared.sequence.Slice.{Slice}
 use Rattle.mt_seq.specs.declared.sequence.Job.{Job}
-use Rattle.mt_seq.specs.Sequence.{saving, testing, ending, listed, back_of, last_of}
+use Rattle.mt_seq.specs.Sequence.{saving, testing, ending, back_of, last_of}
 use Rattle.mt_seq.specs.Stepping.{item_at, view_of, stepped, saved_after, agreed, IsCourse, IsMoved, IsNoLook}
-use Rattle.mt_seq.proofs.Lengths.{length-saving, length-testing, length-ending, length-cells}
+use Rattle.mt_seq.proofs.Lengths.{length-saving, length-testing}
 
 pub saving_at : (policy : Policy) (slice : Slice) (i : ℕ) → i < length (saving policy slice) → slice_get (saving policy slice) i ≡ Some (Look (slice.first + i))
 saving_at NonDestructive slice i h = at_map (λ (cell : ℕ). Look (slice.first + cell)) (cells slice.n) i i (at_cells slice.n i (omega (arith, length-saving slice)))

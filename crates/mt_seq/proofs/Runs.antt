@@ -1,5 +1,5 @@
 -- Many accesses of a course, one more at a time.
-use Rattle.std.proofs.Common.{ℕ, ◌≡◌, ◌+◌, ◌-◌, ◌*◌, ◌^◌, ◌<◌, ◌≤◌, List, [], ◌∷◌, ◌++◌, length, refl, arith, ap, sym, ◌∙◌, subst, Option}
+use Rattle.std.proofs.Common.{ℕ, ◌≡◌, ◌+◌, ◌≤◌, List, length, refl, arith, ap, sym, ◌∙◌, subst, Option}
 use Rattle.std.specs.Prelude.{All}
 use Rattle.std.proofs.lemmas.List.Elements.{All-push}
 use Rattle.mt_word.specs.Word.{Fits}
@@ -8,13 +8,12 @@ use Rattle.mt_fault.specs.Items.{Item, Look, Check, Store}
 use Rattle.mt_plan.specs.Plan.{steps_of}
 use Rattle.mt_port.specs.declared.board.Touch.{Touch}
 use Rattle.mt_port.specs.declared.board.Shape.{Shape}
-use Rattle.mt_port.specs.Board.{Board, IsSound}
+use Rattle.mt_port.specs.Board.{Board}
 use Rattle.mt_seq.specs.declared.course.Course.{Course}
 use Rattle.mt_seq.specs.declared.sequence.Slice.{Slice}
 use Rattle.mt_seq.specs.declared.sequence.Job.{Job}
-use Rattle.mt_seq.specs.Makes.{Makes}
 use Rattle.mt_seq.specs.Sequence.{saving}
-use Rattle.mt_seq.specs.Stepping.{Stepping, view_of, stepped, saved_after, IsCourse, IsReady, IsStep, IsStepOf, IsLookAnswer, Runs}
+use Rattle.mt_seq.specs.Stepping.{Stepping, view_of, saved_after, IsCourse, IsReady, IsStep, IsStepOf, IsLookAnswer, Runs}
 use Rattle.mt_seq.proofs.Underway.{underway_more}
 
 pub runs_none : (s : Stepping) (a : Board) (told : Option (List Touch)) → Runs s a told s a told
@@ -95,3 +94,13 @@ pub ready_step : (s : Stepping) (job again : Job) (c d : Course) (a b : Board) (
 ready_step s job again c d a b ta tb view same step k ready =
     let here : IsStepOf job c a ta d b tb = subst (λ (j : Job). IsStepOf j c a ta d b tb) (sym same) step in
     ready_next (view_of job c) (view_of job d) a b ta tb here k (subst (λ (x : Stepping). IsReady a x (k + 1)) (sym view) ready)
+
+pub ready_less : (b : Board) (s : Stepping) (count k : ℕ) → IsReady b s count → k ≤ count → IsReady b s k
+ready_less b s count k ready h = record {
+  held = ready.held;
+  inside = ready.inside;
+  background = ready.background;
+  fill = ready.fill;
+  fit = ready.fit;
+  room = omega (arith, ready.room);
+}

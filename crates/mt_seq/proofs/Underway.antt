@@ -1,5 +1,5 @@
 -- A sequence that is under way, one access later.
-use Rattle.std.proofs.Common.{ℕ, zero, suc, add-one, ◌≡◌, ◌+◌, ◌-◌, ◌<◌, ◌≤◌, Bool, true, false, List, [], ◌∷◌, ◌++◌, map, take, length, get_or, length-append, append-nil, append_assoc, refl, arith, ap, sym, ◌∙◌, subst, Option, Some, inl, inr}
+use Rattle.std.proofs.Common.{ℕ, zero, suc, add-one, ◌≡◌, ◌+◌, ◌-◌, ◌<◌, ◌≤◌, Bool, true, false, List, [], ◌∷◌, ◌++◌, take, length, append-nil, append_assoc, refl, arith, ap, sym, ◌∙◌, subst, Option, Some, inl, inr}
 use Rattle.std.specs.Prelude.{not, slice_get, All}
 use mathlib.Core.Bool.{◌||◌, ◌&&◌}
 use Rattle.std.proofs.Math.Seq.{take-suc}
@@ -29,9 +29,8 @@ use Rattle.mt_port.specs.declared.board.Shape.{Shape}
 use Rattle.mt_port.specs.Board.{Board, IsSound, memory_of}
 use Rattle.mt_seq.specs.declared.sequence.Slice.{Slice}
 use Rattle.mt_seq.specs.declared.sequence.Job.{Job}
-use Rattle.mt_seq.specs.Makes.{Makes, after_all}
 use Rattle.mt_seq.specs.Sequence.{saving, saved_words, testing, ending, listed, accesses_of, sequence, back_of, last_of}
-use Rattle.mt_seq.specs.Stepping.{Stepping, item_at, begun, stepped, saved_after, agreed, IsUnderway, IsStep, IsNoLook, IsLookAnswer}
+use Rattle.mt_seq.specs.Stepping.{Stepping, item_at, begun, saved_after, agreed, IsUnderway, IsStep, IsNoLook, IsLookAnswer}
 use Rattle.mt_seq.proofs.Lengths.{length-saving, length-cells}
 use Rattle.mt_seq.proofs.Makes.{Makes-nil, Makes-append}
 use Rattle.mt_seq.proofs.Moves.{saving_at}
@@ -100,12 +99,12 @@ next_same b s width same saved =
     let front : List Item = saving s.job.policy s.slice in
     elim (cases_lt s.made (length front)) [
       | inl lt ↦
-        ap (λ (l : List Item). slice_get l s.made) (append_assoc front (testing width s.job s.slice s.saved steps) (ending s.job s.slice s.saved))
-        ∙ front_same front _ _ s.made lt
-        ∙ ap (λ (l : List Item). slice_get l s.made) (sym (append_assoc front (testing b.shape.width s.job s.slice all steps) (ending s.job s.slice all)))
+          ap (λ (l : List Item). slice_get l s.made) (append_assoc front (testing width s.job s.slice s.saved steps) (ending s.job s.slice s.saved))
+          ∙ front_same front _ _ s.made lt
+          ∙ ap (λ (l : List Item). slice_get l s.made) (sym (append_assoc front (testing b.shape.width s.job s.slice all steps) (ending s.job s.slice all)))
       | inr le ↦
-        ap (λ (l : List ℕ). slice_get (listed width s.job s.slice l steps) s.made) (saved ∙ whole_saved s.job.policy b.fault b.words s.slice s.made le)
-        ∙ ap (λ (w : Width). slice_get (listed w s.job s.slice all steps) s.made) same
+          ap (λ (l : List ℕ). slice_get (listed width s.job s.slice l steps) s.made) (saved ∙ whole_saved s.job.policy b.fault b.words s.slice s.made le)
+          ∙ ap (λ (w : Width). slice_get (listed w s.job s.slice all steps) s.made) same
     ]
 
 act_no_look : (width : Width) (addr back : ℕ) (act : Act) → IsNoLook (act_on width addr back act)
@@ -180,8 +179,8 @@ saved_more b s now told tape item answer' sound is at look =
           looked.0 ∙ ap (λ (l : List ℕ). l ++ answer' ∷ []) is.saved ∙ ap (λ (w : ℕ). take s.made all ++ w ∷ []) word
           ∙ sym (take_more all s.made _ (saved_at s.job.policy b.fault b.words s.slice s.made lt)))
       | inr le ↦
-        no_look_saves item s.saved answer' (later_no_look b.shape.width s.job s.slice all steps s.made item le at)
-        ∙ is.saved ∙ whole_saved s.job.policy b.fault b.words s.slice s.made le ∙ sym (whole_saved s.job.policy b.fault b.words s.slice (s.made + 1) (omega arith))
+          no_look_saves item s.saved answer' (later_no_look b.shape.width s.job s.slice all steps s.made item le at)
+          ∙ is.saved ∙ whole_saved s.job.policy b.fault b.words s.slice s.made le ∙ sym (whole_saved s.job.policy b.fault b.words s.slice (s.made + 1) (omega arith))
     ]
 
 differs_more : (d g : Bool) → (not d && g) ≡ not (d || not g)

@@ -1,13 +1,12 @@
 -- How long attempts are, and what is due at their end.
-use Rattle.std.proofs.Common.{ℕ, zero, suc, ◌≡◌, ◌≢◌, ◌+◌, ◌-◌, ◌*◌, ◌<◌, ◌≤◌, ◌⊎◌, Bool, true, false, List, [], ◌∷◌, ◌++◌, take, length, get_or, length-append, append-nil, refl, arith, ap, sym, ◌∙◌, subst, Option, Some, None, inl, inr}
+use Rattle.std.proofs.Common.{ℕ, zero, suc, ◌≡◌, ◌+◌, ◌-◌, ◌<◌, ◌≤◌, ◌⊎◌, Bool, true, false, List, [], ◌∷◌, take, length, get_or, length-append, append-nil, refl, arith, ap, sym, ◌∙◌, subst, Option, Some, None, inl, inr}
 use Rattle.std.specs.Prelude.{All, nat_lt, nat_le, if◌then◌else◌, ◌&&◌, find}
-use Rattle.std.specs.List.{list_any, range_with_len}
+use Rattle.std.specs.List.{range_with_len}
 use Rattle.std.proofs.lemmas.Bool.{cases_lt, lt-ltb, le-ltb, le-leb, lt-leb}
 use Rattle.std.proofs.lemmas.List.{length-take}
-use Rattle.mt_fault.specs.Items.{Item}
 use Rattle.mt_plan.specs.Plan.{steps_of}
 use Rattle.mt_plan.specs.declared.algorithm.Policy.{Policy}
-use Rattle.mt_plan.specs.declared.algorithm.Policy.TheVariants.{NonDestructive, Destructive}
+use Rattle.mt_plan.specs.declared.algorithm.Policy.TheVariants.{NonDestructive}
 use Rattle.mt_port.specs.declared.request.Request.{Request}
 use Rattle.mt_port.specs.Board.{Board, is_urgent_due}
 use Rattle.mt_seq.specs.declared.sequence.Slice.{Slice}

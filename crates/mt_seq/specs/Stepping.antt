@@ -19,7 +19,7 @@ use Rattle.mt_seq.specs.declared.sequence.Job.{Job}
 use Rattle.mt_seq.specs.declared.stepper.Progress.{Progress}
 use Rattle.mt_seq.specs.declared.stepper.Progress.TheVariants.{More, Ended}
 use Rattle.mt_seq.specs.Makes.{Makes}
-use Rattle.mt_seq.specs.Sequence.{is_transparent, saving, saved_words, listed, sequence, sequence_hold, verdict_of}
+use Rattle.mt_seq.specs.Sequence.{is_transparent, saving, saved_words, listed, sequence, verdict_of}
 
 -- An access as an item of a list.
 abbrev pub item_of_access : Access → Item

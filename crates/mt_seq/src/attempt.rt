@@ -32,7 +32,13 @@ fn first_moment(offset: Option<u32>, count: u32, end: u32) -> Option<u32>
 }
 
 /// After how many accesses an attempt is dropped.
-fn dropped_at<P: Port>(port: &P, alg: &Algorithm, frame: Frame, slice: Slice, may: bool) -> Option<u32>
+fn dropped_at<P: Port>(
+    port: &P,
+    alg: &Algorithm,
+    frame: Frame,
+    slice: Slice,
+    may: bool,
+) -> Option<u32>
     requires accepted { IsAccepted alg.now }
     requires some { 1 ≤ slice.n }
     requires small { slice.n ≤ 64 }
@@ -56,10 +62,8 @@ pub(crate) fn restore<P: Port>(port: &mut P, slice: Slice, saved: &[u64])
     requires all { length saved.now ≡ slice.n }
     requires fit { All (Fits (P.state port.old).shape.width) saved.now }
     requires room { (P.state port.old).count + slice.n < 2 ^ 32 }
-    ensures {
-      Makes (map (λ cell. Store (slice.first + cell) (slice_index saved.now cell)) (cells slice.n))
-        (P.state port.old) (P.state port.new) (P.tape port.old) (P.tape port.new) true
-    }
+    ensures { Makes (map (λ cell. Store (slice.first + cell) (slice_index saved.now cell)) (cells slice.n))
+        (P.state port.old) (P.state port.new) (P.tape port.old) (P.tape port.new) true }
 {
     for cell in 0..slice.n {
         let access = Access::Store {
@@ -92,10 +96,8 @@ fn make_part<P: Port>(port: &mut P, alg: &Algorithm, frame: Frame, slice: Slice,
     requires keeps { frame.policy ≡ Policy.NonDestructive }
     requires until { until < slice.n + length (steps_of alg.now slice.n) }
     requires room { (P.state port.old).count + sequence_hold (job_of alg.now frame) slice.n < 2 ^ 32 }
-    ensures {
-      Makes (backed_out (P.state port.old) (job_of alg.now frame) slice until) (P.state port.old) (P.state port.new) (P.tape port.old) (P.tape port.new)
-        (passes (P.state port.old).fault (P.state port.old).words [] (backed_out (P.state port.old) (job_of alg.now frame) slice until))
-    }
+    ensures { Makes (backed_out (P.state port.old) (job_of alg.now frame) slice until) (P.state port.old) (P.state port.new) (P.tape port.old) (P.tape port.new)
+        (passes (P.state port.old).fault (P.state port.old).words [] (backed_out (P.state port.old) (job_of alg.now frame) slice until)) }
 {
     let mut course = Course::new(alg, frame, slice);
     course.run(port, alg, frame, until);
@@ -106,7 +108,13 @@ fn make_part<P: Port>(port: &mut P, alg: &Algorithm, frame: Frame, slice: Slice,
 
 /// One attempt at a slice, under one hold of interrupts. Where it may be dropped it is, after the first access behind which an urgent
 /// request is due, in a test that keeps the words, and before the writes that end it; what the algorithm wrote is then put back.
-pub fn try_slice<P: Port>(port: &mut P, alg: &Algorithm, frame: Frame, slice: Slice, may: bool) -> Option<Verdict>
+pub fn try_slice<P: Port>(
+    port: &mut P,
+    alg: &Algorithm,
+    frame: Frame,
+    slice: Slice,
+    may: bool,
+) -> Option<Verdict>
     requires free { (P.state port.old).held ≡ false }
     requires job { IsSoundJob (P.state port.old).shape.width (job_of alg.now frame) }
     requires slice { IsSoundSlice (P.state port.old).shape.ram slice }
@@ -163,8 +171,8 @@ pub fn run_slice<P: Port>(port: &mut P, job: &Job, slice: Slice) -> Verdict
 mod tests {
     use super::*;
     use mt_march::march_c_minus;
-    use mt_word::Width;
     use mt_port::{PlainBoard, Shape, Touch};
+    use mt_word::Width;
     use std::test::Fail;
 
     #[test]

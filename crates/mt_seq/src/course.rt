@@ -185,10 +185,8 @@ impl Course {
         requires to { self.now.made < self.now.ending_from + self.now.slice.n }
         requires inside { self.now.slice.first + self.now.slice.n < 2 ^ 32 }
         requires saved { frame.policy ≡ Policy.NonDestructive → length self.now.saved.items ≡ self.now.slice.n }
-        ensures {
-          result ≡ Access.Store (self.now.slice.first + (self.now.made - self.now.ending_from))
-            (last_of frame.policy frame.fill self.now.saved.items (self.now.made - self.now.ending_from))
-        }
+        ensures { result ≡ Access.Store (self.now.slice.first + (self.now.made - self.now.ending_from))
+            (last_of frame.policy frame.fill self.now.saved.items (self.now.made - self.now.ending_from)) }
     {
         let cell = self.made - self.ending_from;
         Access::Store {
@@ -239,10 +237,8 @@ impl Course {
         requires left { made_by self.old.steps < length (steps_of alg.now (cells_of self.old.steps)) }
         requires few { self.old.made < 2 ^ 32 - 1 }
         requires kind { IsNoLook (item_of_access access) }
-        ensures {
-          (job : Job) → job.alg ≡ alg.now → IsCourse job self.old → self.old.testing_from ≤ self.old.made → self.old.made < self.old.ending_from
-            → IsMoved job self.old (item_of_access access) answer self.new
-        }
+        ensures { (job : Job) → job.alg ≡ alg.now → IsCourse job self.old → self.old.testing_from ≤ self.old.made → self.old.made < self.old.ending_from
+            → IsMoved job self.old (item_of_access access) answer self.new }
     {
         self.steps.advance(alg);
         self.differs |= !access.agrees(answer);
@@ -253,10 +249,8 @@ impl Course {
     #[inline(always)]
     fn stored(&mut self)
         requires few { self.old.made < 2 ^ 32 - 1 }
-        ensures {
-          (job : Job) (addr word answer : ℕ) → IsCourse job self.old → self.old.ending_from ≤ self.old.made → self.old.made < self.old.ending_from + self.old.slice.n
-            → IsMoved job self.old (Store addr word) answer self.new
-        }
+        ensures { (job : Job) (addr word answer : ℕ) → IsCourse job self.old → self.old.ending_from ≤ self.old.made → self.old.made < self.old.ending_from + self.old.slice.n
+            → IsMoved job self.old (Store addr word) answer self.new }
     {
         self.made += 1;
     }
@@ -269,10 +263,8 @@ impl Course {
         requires background { Fits width frame.background }
         requires fit { All (Fits width) self.old.saved.items }
         ensures course { IsCourse (job_of alg.now frame) self.new }
-        ensures view {
-          (item : Item) → item_at width (view_of (job_of alg.now frame) self.old) ≡ Some item
-            → view_of (job_of alg.now frame) self.new ≡ stepped (view_of (job_of alg.now frame) self.old) item answer
-        }
+        ensures view { (item : Item) → item_at width (view_of (job_of alg.now frame) self.old) ≡ Some item
+            → view_of (job_of alg.now frame) self.new ≡ stepped (view_of (job_of alg.now frame) self.old) item answer }
     {
         if self.made < self.testing_from {
             self.looked(answer);
@@ -357,16 +349,17 @@ fn access_of(width: Width, addr: u32, back: u64, act: Act) -> Access
     ensures addr { place_of result ≡ addr }
     ensures fits { FitsAccess width result }
 {
+    let flipped = flip(width, back);
     match act {
         Act::WritePlain => Access::Store { addr, word: back },
         Act::WriteFlipped => Access::Store {
             addr,
-            word: flip(width, back),
+            word: flipped,
         },
         Act::ReadPlain => Access::Check { addr, word: back },
         Act::ReadFlipped => Access::Check {
             addr,
-            word: flip(width, back),
+            word: flipped,
         },
     }
 }

@@ -137,10 +137,8 @@ impl Stepper {
         requires fit { All (Fits (P.state port.old).shape.width) self.saved }
         requires room { (P.state port.old).count + self.slice.n < 2 ^ 32 }
         ensures count { result ≡ (if nat_lt self.slice.n self.made then self.slice.n else 0) }
-        ensures made {
-          Makes (if nat_lt self.slice.n self.made then ending self.job self.slice self.saved else [])
-            (P.state port.old) (P.state port.new) (P.tape port.old) (P.tape port.new) true
-        }
+        ensures made { Makes (if nat_lt self.slice.n self.made then ending self.job self.slice self.saved else [])
+            (P.state port.old) (P.state port.new) (P.tape port.old) (P.tape port.new) true }
     {
         let slice = self.course.slice();
         if self.course.made() > u32::from(slice.n) {
@@ -160,18 +158,20 @@ mod tests {
     use mt_port::{PlainBoard, Shape};
     use std::test::Fail;
 
-    fn job() -> Job
-        ensures accepted { IsAccepted result.alg }
-        ensures kept { result.policy ≡ Policy.NonDestructive }
-        ensures background { result.background ≡ 0 }
-        ensures fill { result.fill ≡ 0 }
+    /// Makes all accesses that are left, and answers whether one before the last did not answer More, and the last answer.
+    fn step_all<P: Port>(port: &mut P, stepper: &mut Stepper, left: u32) -> (bool, Progress)
+        requires ready { IsReady (P.state port.old) stepper.old left }
+        requires left { stepper.old.made + left ≤ sequence_hold stepper.old.job stepper.old.slice.n }
     {
-        Job {
-            alg: Algorithm::March(march_c_minus()),
-            policy: Policy::NonDestructive,
-            background: 0,
-            fill: 0,
+        let mut early = false;
+        let mut last = Progress::More;
+        let mut left = left;
+        while left > 0 {
+            early |= last != Progress::More;
+            last = stepper.step(port);
+            left -= 1;
         }
+        (early, last)
     }
 
     #[test]
@@ -183,19 +183,17 @@ mod tests {
             flash: 0,
         };
         let mut board = PlainBoard::new(rt.alloc(), shape, 0).ok().ok_or("memory")?;
-        let job = job();
+        let job = Job {
+            alg: Algorithm::March(march_c_minus()),
+            policy: Policy::NonDestructive,
+            background: 0,
+            fill: 0,
+        };
         let hold = hold_of(&job.alg, job.policy, 2);
         let mut stepper = Stepper::new(job, Slice { first: 8, n: 2 });
         board.hold();
-        let mut more = 0;
-        let mut last = Progress::More;
-        for _ in 0..hold {
-            last = stepper.step(&mut board);
-            if last == Progress::More {
-                more += 1;
-            }
-        }
-        assert_eq!(rt; more, 23);
+        let (early, last) = step_all(&mut board, &mut stepper, hold);
+        assert!(rt; !early);
         assert_eq!(rt; last, Progress::Ended(Verdict::Pass));
         assert_eq!(rt; stepper.made(), 24);
         assert_eq!(rt; board.made(), 24);

@@ -1,6 +1,6 @@
 -- Forms of the table that don't end at once.
 use Rattle.std.proofs.Common.{◌≡◌, Bool, true, false, refl}
-use Rattle.mt_text.specs.Forms.{is_done}
+use Rattle.mt_text.specs.Reader.{is_done}
 use Rattle.mt_text.specs.Lines.{app_op, event, op_form}
 use Rattle.mt_port.specs.declared.request.Module.{Module}
 use Rattle.mt_port.specs.declared.request.Module.TheVariants.{RamTst, FlsTst}

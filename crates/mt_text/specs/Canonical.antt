@@ -133,19 +133,19 @@ event_words_by write (Flip spot) = codes "flip" ∷ spot_text spot ∷ []
 
 -- a handler's call
 abbrev pub call_words : HandlerCall → List (List ℕ)
-call_words handler.RamAllow = codes "ram" ∷ codes "Allow" ∷ []
-call_words handler.RamStop = codes "ram" ∷ codes "Stop" ∷ []
-call_words handler.RamSuspend = codes "ram" ∷ codes "Suspend" ∷ []
-call_words handler.RamResume = codes "ram" ∷ codes "Resume" ∷ []
-call_words handler.RamGetExecutionStatus = codes "ram" ∷ codes "GetExecutionStatus" ∷ []
-call_words handler.RamGetTestResult = codes "ram" ∷ codes "GetTestResult" ∷ []
-call_words (handler.RamGetTestResultPerBlock n) = codes "ram" ∷ codes "GetTestResultPerBlock" ∷ decimal n ∷ []
-call_words handler.FlsSuspend = codes "fls" ∷ codes "Suspend" ∷ []
-call_words handler.FlsResume = codes "fls" ∷ codes "Resume" ∷ []
-call_words handler.FlsAbort = codes "fls" ∷ codes "Abort" ∷ []
-call_words handler.FlsGetCurrentState = codes "fls" ∷ codes "GetCurrentState" ∷ []
-call_words handler.FlsGetTestResultBgnd = codes "fls" ∷ codes "GetTestResultBgnd" ∷ []
-call_words handler.FlsGetTestResultFgnd = codes "fls" ∷ codes "GetTestResultFgnd" ∷ []
+call_words handler.RamAllow = codes "ram" ∷ ram_name ram_service.Allow ∷ []
+call_words handler.RamStop = codes "ram" ∷ ram_name ram_service.Stop ∷ []
+call_words handler.RamSuspend = codes "ram" ∷ ram_name ram_service.Suspend ∷ []
+call_words handler.RamResume = codes "ram" ∷ ram_name ram_service.Resume ∷ []
+call_words handler.RamGetExecutionStatus = codes "ram" ∷ ram_name ram_service.GetExecutionStatus ∷ []
+call_words handler.RamGetTestResult = codes "ram" ∷ ram_name ram_service.GetTestResult ∷ []
+call_words (handler.RamGetTestResultPerBlock n) = codes "ram" ∷ ram_name ram_service.GetTestResultPerBlock ∷ decimal n ∷ []
+call_words handler.FlsSuspend = codes "fls" ∷ fls_name fls_service.Suspend ∷ []
+call_words handler.FlsResume = codes "fls" ∷ fls_name fls_service.Resume ∷ []
+call_words handler.FlsAbort = codes "fls" ∷ fls_name fls_service.Abort ∷ []
+call_words handler.FlsGetCurrentState = codes "fls" ∷ fls_name fls_service.GetCurrentState ∷ []
+call_words handler.FlsGetTestResultBgnd = codes "fls" ∷ fls_name fls_service.GetTestResultBgnd ∷ []
+call_words handler.FlsGetTestResultFgnd = codes "fls" ∷ fls_name fls_service.GetTestResultFgnd ∷ []
 
 -- an operation of a handler
 abbrev pub op_words_by : (ℕ → List ℕ) → HandlerOp → List (List ℕ)

@@ -1,7 +1,7 @@
 -- Forms of lines: what may stand at each place, and which value comes of it.
-use Rattle.std.specs.Prelude.{◌≡◌, ℕ, ◌^◌, ◌==◌, ◌||◌, nat_lt, nat_le, not, Bool, true, false, if◌then◌else◌, List, [], ◌∷◌, drop, codes, Option, Some, None, Result, Ok, Err}
+use Rattle.std.specs.Prelude.{ℕ, ◌^◌, ◌==◌, ◌||◌, nat_lt, nat_le, not, Bool, true, false, if◌then◌else◌, List, [], ◌∷◌, drop, codes, Option, Some, None, Result, Ok, Err}
 use Rattle.std.specs.Str.{bytes_eq}
-use Rattle.mt_text.specs.Tokens.{Token, begins_word, number_of, hex_of, spot_of}
+use Rattle.mt_text.specs.Tokens.{begins_word, number_of, hex_of, spot_of}
 use Rattle.mt_port.specs.declared.board.Shape.{Shape}
 use Rattle.mt_word.specs.Word.{width_bits}
 use Rattle.mt_fault.specs.declared.fault.Spot.{Spot}
@@ -126,37 +126,6 @@ abbrev pub at_place : {A : Type 0} → ℕ → Result A LineKind → Result A Li
 at_place place (Ok x) = Ok x
 at_place place (Err kind) = refused kind place
 
--- the next token, and those after it
-abbrev pub next : ℕ → List Token → Result (Token × List Token) LineRefusal
-next end [] = refused Spelling end
-next end (t ∷ ts) = Ok (t, ts)
-
--- the form has no further token
-abbrev pub is_done : {X : Type 0} → Form X → Bool
-is_done (done x) = true
-is_done _ = false
-
--- the value of a form, from left to right, and the tokens after it
-unfoldable pub read : {X : Type 0} → Shape → ℕ → Form X → List Token → Result (X × List Token) LineRefusal
-read shape end (done x) ts = Ok (x, ts)
-read shape end none ts = next end ts >>= λ n. refused Spelling n.0.place
-read shape end (row word form more) ts =
-    next end ts >>= λ n. if bytes_eq n.0.bytes word then read shape end form n.1 else (if is_done more then refused Spelling n.0.place else read shape end more ts)
-read shape end (barred word kind form more) ts =
-    next end ts >>= λ n. if bytes_eq n.0.bytes word then refused kind n.0.place else (if is_done more then refused Spelling n.0.place else read shape end more ts)
-read shape end (value slot form) ts = next end ts >>= λ n. at_place n.0.place (value_at shape slot n.0.bytes) >>= λ v. read shape end (form v) n.1
-read shape end (spot slot form) ts = next end ts >>= λ n. at_place n.0.place (spot_at shape slot n.0.bytes) >>= λ v. read shape end (form v) n.1
-read shape end (mark last count form) ts = next end ts >>= λ n. at_place n.0.place (mark_at last count n.0.bytes) >>= λ v. read shape end (form v) n.1
-
--- the same, behind the first token
-abbrev pub branch : {X : Type 0} → Shape → ℕ → Form X → Token → List Token → Result (X × List Token) LineRefusal
-branch shape end form t ts = read shape end form (t ∷ ts)
-
--- what a function returned and left is what reading gives
-abbrev pub Gives : {X : Type 0} → Result X LineRefusal → List Token → Result (X × List Token) LineRefusal → Type 0
-Gives (Ok x) rest read = read ≡ Ok (x, rest)
-Gives (Err e) rest read = read ≡ Err e
-
 -- the same form of other values
 abbrev pub mapped : {X Y : Type 0} → (X → Y) → Form X → Form Y
 mapped f (done x) = done (f x)
@@ -181,13 +150,3 @@ entered word (Breaks kind form) more = barred word kind form more
 abbrev pub rows : {N X : Type 0} → (N → List ℕ) → (N → Entry X) → List N → Form X
 rows name entry [] = none
 rows name entry (n ∷ ns) = entered (name n) (entry n) (rows name entry ns)
-
--- the first that the word names
-abbrev pub named : {N : Type 0} → (N → List ℕ) → List N → List ℕ → Option N
-named name [] word = None
-named name (n ∷ ns) word = if bytes_eq word (name n) then Some n else named name ns word
-
--- what follows a name
-abbrev pub read_entry : {X : Type 0} → Shape → ℕ → Entry X → ℕ → List Token → Result (X × List Token) LineRefusal
-read_entry shape end (Opens form) place ts = read shape end form ts
-read_entry shape end (Breaks kind form) place ts = refused kind place

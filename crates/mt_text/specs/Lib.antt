@@ -11,3 +11,4 @@ pub mod Canonical
 pub mod Kinds
 pub mod TokenRules
 pub mod LineTokens
+pub mod Reader

@@ -194,20 +194,6 @@ abbrev pub is_comment : List Token → Bool
 is_comment [] = false
 is_comment (t ∷ ts) = begins_comment t.bytes
 
--- what a function returned, with how the line goes on from there, is how the whole line goes
-abbrev pub Continues : {X : Type 0} → Result X LineRefusal → (X → Result Line LineRefusal) → Result Line LineRefusal → Type 0
-Continues (Ok x) more all = all ≡ more x
-Continues (Err e) more all = all ≡ Err e
-
--- behind an operation and the token after it
-abbrev pub behind_op : Bool → Module → Event → List Request → Mark → List HandlerOp → Part
-behind_op true m ev rs k ops = Requests m ev (rs ++ request k ops ∷ [])
-behind_op false m ev rs k ops = Operation m ev rs k ops
-
--- what a function returned
-abbrev pub Comes : Result Line LineRefusal → Result Line LineRefusal → Type 0
-Comes result all = all ≡ result
-
 -- the line of a text, token by token
 unfoldable pub line_of : Shape → List ℕ → Result Line LineRefusal
 line_of shape text = if is_comment (tokens 1 text) then Ok (line Nothing []) else run shape (1 + length text) (done Start) (tokens 1 text)

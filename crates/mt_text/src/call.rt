@@ -1,7 +1,7 @@
 //! Services on a line and in a handler.
 
 ghost use Rattle.std.specs.Prelude.{◌≡◌};
-ghost use Rattle.mt_text.specs.Forms.{branch, read_entry, Gives};
+ghost use Rattle.mt_text.specs.Reader.{branch, read_entry, Gives};
 ghost use Rattle.mt_text.specs.RamServices.{ram_call, ram_entry, ram_handler_call, ram_handler_entry};
 ghost use Rattle.mt_text.specs.FlsServices.{fls_call, fls_entry, fls_handler_call, fls_handler_entry};
 ghost use Rattle.mt_text.specs.Cursors.{left, end_of, token_view};
@@ -10,7 +10,7 @@ use crate::cursor::Cursor;
 use crate::line::{FlsCall, LineKind, LineRefusal, RamCall};
 use crate::names::{FlsService, RamService, fls_service, ram_service};
 use crate::token::Token;
-use crate::value::{number, refused};
+use crate::value::{NumberSlot, number, refused};
 use mt_port::{HandlerCall, Shape};
 
 /// Reads a service of RamTst.
@@ -28,7 +28,7 @@ pub fn ram_call(
     }
 }
 
-#[tactic(auto, unfolding(crate::specs::Forms::read))]
+#[tactic(auto, unfolding(crate::specs::Reader::read))]
 fn ram_call_of(
     service: RamService,
     place: u32,
@@ -48,17 +48,29 @@ fn ram_call_of(
         RamService::GetExecutionStatus => Ok(RamCall::GetExecutionStatus),
         RamService::GetTestResult => Ok(RamCall::GetTestResult),
         RamService::GetTestResultPerBlock => Ok(RamCall::GetTestResultPerBlock(number(
-            shape, cursor,
+            NumberSlot::Any,
+            shape,
+            cursor,
         )?)),
         RamService::GetAlgParams => Ok(RamCall::GetAlgParams),
         RamService::GetTestAlgorithm => Ok(RamCall::GetTestAlgorithm),
         RamService::GetNumberOfTestedCells => Ok(RamCall::GetNumberOfTestedCells),
-        RamService::SelectAlgParams => Ok(RamCall::SelectAlgParams(number(shape, cursor)?)),
+        RamService::SelectAlgParams => Ok(RamCall::SelectAlgParams(number(
+            NumberSlot::Any,
+            shape,
+            cursor,
+        )?)),
         RamService::ChangeNumberOfTestedCells => Ok(RamCall::ChangeNumberOfTestedCells(number(
-            shape, cursor,
+            NumberSlot::Any,
+            shape,
+            cursor,
         )?)),
         RamService::RunFullTest => Ok(RamCall::RunFullTest),
-        RamService::RunPartialTest => Ok(RamCall::RunPartialTest(number(shape, cursor)?)),
+        RamService::RunPartialTest => Ok(RamCall::RunPartialTest(number(
+            NumberSlot::Any,
+            shape,
+            cursor,
+        )?)),
         RamService::GetVersionInfo => Ok(RamCall::GetVersionInfo),
     }
 }
@@ -78,7 +90,7 @@ pub fn ram_handler_call(
     }
 }
 
-#[tactic(auto, unfolding(crate::specs::Forms::read))]
+#[tactic(auto, unfolding(crate::specs::Reader::read))]
 fn ram_handler_call_of(
     service: RamService,
     place: u32,
@@ -96,7 +108,9 @@ fn ram_handler_call_of(
         RamService::GetExecutionStatus => Ok(HandlerCall::RamGetExecutionStatus),
         RamService::GetTestResult => Ok(HandlerCall::RamGetTestResult),
         RamService::GetTestResultPerBlock => Ok(HandlerCall::RamGetTestResultPerBlock(number(
-            shape, cursor,
+            NumberSlot::Any,
+            shape,
+            cursor,
         )?)),
         RamService::Init
         | RamService::DeInit
@@ -126,7 +140,7 @@ pub fn fls_call(
     }
 }
 
-#[tactic(auto, unfolding(crate::specs::Forms::read))]
+#[tactic(auto, unfolding(crate::specs::Reader::read))]
 fn fls_call_of(
     service: FlsService,
     place: u32,
@@ -139,7 +153,7 @@ fn fls_call_of(
     match service {
         FlsService::Init => Ok(FlsCall::Init),
         FlsService::DeInit => Ok(FlsCall::DeInit),
-        FlsService::StartFgnd => Ok(FlsCall::StartFgnd(number(shape, cursor)?)),
+        FlsService::StartFgnd => Ok(FlsCall::StartFgnd(number(NumberSlot::Any, shape, cursor)?)),
         FlsService::Abort => Ok(FlsCall::Abort),
         FlsService::Suspend => Ok(FlsCall::Suspend),
         FlsService::Resume => Ok(FlsCall::Resume),
@@ -166,7 +180,7 @@ pub fn fls_handler_call(
     }
 }
 
-#[tactic(auto, unfolding(crate::specs::Forms::read))]
+#[tactic(auto, unfolding(crate::specs::Reader::read))]
 fn fls_handler_call_of(
     service: FlsService,
     place: u32,

@@ -2,6 +2,9 @@
 
 ghost use Rattle.std.specs.Prelude.{◌≡◌, ◌≤◌, ◌+◌, ◌++◌, ◌∷◌, [], true, false, codes, decimal, length};
 ghost use Rattle.mt_text.specs.Digits.{word_text};
+ghost use Rattle.mt_text.specs.RamServices.{ram_name};
+ghost use Rattle.mt_text.specs.FlsServices.{fls_name};
+ghost use Rattle.mt_text.specs.declared.names.RamService.TheVariants.{GetTestResultPerBlock};
 ghost use Rattle.mt_text.specs.Canonical.{ram_parts, fls_parts, argument, ram_words, fls_words, app_words, spot_text, bit_text, direction_text, wiring_text, fault_words, event_words, call_words, op_words, text_of, shown, words, spaced_words};
 
 use crate::line::{Event, FlsCall, RamCall};
@@ -140,27 +143,45 @@ fn push_argument_if_any(out: &mut LineText, given: Option<u32>)
     }
 }
 
-/// Appends a service of RamTst behind its module's word.
+/// Appends the word of RamTst and the name of a service.
+fn push_ram_service(out: &mut LineText, spaced: bool, service: RamService)
+    requires { length out.old.items + 30 ≤ 6144 }
+    ensures text { out.new.items ≡ out.old.items ++ text_of (words spaced (codes "ram" ∷ ram_name service ∷ [])) }
+    ensures short { length out.new.items ≤ length out.old.items + 30 }
+{
+    push_token(out, spaced, b"ram");
+    push_token(out, true, service.name());
+}
+
+/// Appends the word of FlsTst and the name of a service.
+fn push_fls_service(out: &mut LineText, spaced: bool, service: FlsService)
+    requires { length out.old.items + 30 ≤ 6144 }
+    ensures text { out.new.items ≡ out.old.items ++ text_of (words spaced (codes "fls" ∷ fls_name service ∷ [])) }
+    ensures short { length out.new.items ≤ length out.old.items + 30 }
+{
+    push_token(out, spaced, b"fls");
+    push_token(out, true, service.name());
+}
+
+/// Appends a call of RamTst.
 fn push_ram_call(out: &mut LineText, call: RamCall)
     requires { length out.old.items + 40 ≤ 6144 }
     ensures text { out.new.items ≡ out.old.items ++ text_of (words false (codes "ram" ∷ ram_words call)) }
     ensures short { length out.new.items ≤ length out.old.items + 40 }
 {
     let (service, given) = ram_parts(call);
-    push_bytes(out, b"ram");
-    push_token(out, true, service.name());
+    push_ram_service(out, false, service);
     push_argument_if_any(out, given);
 }
 
-/// Appends a service of FlsTst behind its module's word.
+/// Appends a call of FlsTst.
 fn push_fls_call(out: &mut LineText, call: FlsCall)
     requires { length out.old.items + 40 ≤ 6144 }
     ensures text { out.new.items ≡ out.old.items ++ text_of (words false (codes "fls" ∷ fls_words call)) }
     ensures short { length out.new.items ≤ length out.old.items + 40 }
 {
     let (service, given) = fls_parts(call);
-    push_bytes(out, b"fls");
-    push_token(out, true, service.name());
+    push_fls_service(out, false, service);
     push_argument_if_any(out, given);
 }
 
@@ -354,22 +375,12 @@ pub fn push_event(out: &mut LineText, width: Width, event: Event)
     }
 }
 
-/// Appends a module's word and a service of it.
-fn push_service(out: &mut LineText, spaced: bool, callee: &[u8], service: &[u8])
-    requires { length out.old.items + length callee.now + length service.now + 2 ≤ 6144 }
-    ensures text { out.new.items ≡ out.old.items ++ text_of (words spaced (callee.now ∷ service.now ∷ [])) }
-    ensures short { length out.new.items ≤ length out.old.items + length callee.now + length service.now + 2 }
-{
-    push_token(out, spaced, callee);
-    push_token(out, true, service);
-}
-
 fn push_result_of_block(out: &mut LineText, spaced: bool, block: u32)
     requires { length out.old.items + 41 ≤ 6144 }
-    ensures text { out.new.items ≡ out.old.items ++ text_of (words spaced (codes "ram" ∷ codes "GetTestResultPerBlock" ∷ decimal block ∷ [])) }
+    ensures text { out.new.items ≡ out.old.items ++ text_of (words spaced (codes "ram" ∷ ram_name GetTestResultPerBlock ∷ decimal block ∷ [])) }
     ensures short { length out.new.items ≤ length out.old.items + 41 }
 {
-    push_service(out, spaced, b"ram", b"GetTestResultPerBlock");
+    push_ram_service(out, spaced, RamService::GetTestResultPerBlock);
     push_argument(out, block);
 }
 
@@ -380,25 +391,35 @@ fn push_handler_call(out: &mut LineText, spaced: bool, call: HandlerCall)
     ensures short { length out.new.items ≤ length out.old.items + 41 }
 {
     match call {
-        HandlerCall::RamAllow => push_service(out, spaced, b"ram", b"Allow"),
-        HandlerCall::RamStop => push_service(out, spaced, b"ram", b"Stop"),
-        HandlerCall::RamSuspend => push_service(out, spaced, b"ram", b"Suspend"),
-        HandlerCall::RamResume => push_service(out, spaced, b"ram", b"Resume"),
-        HandlerCall::RamGetExecutionStatus => {
-            push_service(out, spaced, b"ram", b"GetExecutionStatus")
-        }
-        HandlerCall::RamGetTestResult => push_service(out, spaced, b"ram", b"GetTestResult"),
+        HandlerCall::RamAllow => push_ram_service(out, spaced, RamService::Allow),
+        HandlerCall::RamStop => push_ram_service(out, spaced, RamService::Stop),
+        HandlerCall::RamSuspend => push_ram_service(out, spaced, RamService::Suspend),
+        HandlerCall::RamResume => push_ram_service(out, spaced, RamService::Resume),
+        HandlerCall::RamGetExecutionStatus => push_ram_service(
+            out,
+            spaced,
+            RamService::GetExecutionStatus,
+        ),
+        HandlerCall::RamGetTestResult => push_ram_service(out, spaced, RamService::GetTestResult),
         HandlerCall::RamGetTestResultPerBlock(block) => push_result_of_block(out, spaced, block),
-        HandlerCall::FlsSuspend => push_service(out, spaced, b"fls", b"Suspend"),
-        HandlerCall::FlsResume => push_service(out, spaced, b"fls", b"Resume"),
-        HandlerCall::FlsAbort => push_service(out, spaced, b"fls", b"Abort"),
-        HandlerCall::FlsGetCurrentState => push_service(out, spaced, b"fls", b"GetCurrentState"),
-        HandlerCall::FlsGetTestResultBgnd => {
-            push_service(out, spaced, b"fls", b"GetTestResultBgnd")
-        }
-        HandlerCall::FlsGetTestResultFgnd => {
-            push_service(out, spaced, b"fls", b"GetTestResultFgnd")
-        }
+        HandlerCall::FlsSuspend => push_fls_service(out, spaced, FlsService::Suspend),
+        HandlerCall::FlsResume => push_fls_service(out, spaced, FlsService::Resume),
+        HandlerCall::FlsAbort => push_fls_service(out, spaced, FlsService::Abort),
+        HandlerCall::FlsGetCurrentState => push_fls_service(
+            out,
+            spaced,
+            FlsService::GetCurrentState,
+        ),
+        HandlerCall::FlsGetTestResultBgnd => push_fls_service(
+            out,
+            spaced,
+            FlsService::GetTestResultBgnd,
+        ),
+        HandlerCall::FlsGetTestResultFgnd => push_fls_service(
+            out,
+            spaced,
+            FlsService::GetTestResultFgnd,
+        ),
     }
 }
 

@@ -2,7 +2,8 @@
 
 ghost use Rattle.std.specs.Prelude.{◌≡◌, true, false, IfOk};
 ghost use Rattle.mt_port.specs.declared.request.Module.TheVariants.{RamTst, FlsTst};
-ghost use Rattle.mt_text.specs.Forms.{read, branch, Gives, mapped};
+ghost use Rattle.mt_text.specs.Forms.{mapped};
+ghost use Rattle.mt_text.specs.Reader.{read, branch, Gives};
 ghost use Rattle.mt_text.specs.Lines.{app_op, op_form, is_op_word};
 ghost use Rattle.mt_text.specs.RamServices.{ram_handler_call};
 ghost use Rattle.mt_text.specs.FlsServices.{fls_handler_call};
@@ -18,7 +19,7 @@ use crate::value::{is, refused};
 use mt_port::{HandlerOp, Module, Shape};
 
 /// Reads what follows `ram` in a handler.
-#[tactic(auto, unfolding(crate::specs::Forms::read))]
+#[tactic(auto, unfolding(crate::specs::Reader::read))]
 fn ram_op(shape: Shape, cursor: &mut Cursor<'_>) -> Result<HandlerOp, LineRefusal>
     ensures value { Gives result (left cursor.new) (read shape (end_of cursor.old) (mapped Call ram_handler_call) (left cursor.old)) }
     ensures end { end_of cursor.new ≡ end_of cursor.old }
@@ -29,7 +30,7 @@ fn ram_op(shape: Shape, cursor: &mut Cursor<'_>) -> Result<HandlerOp, LineRefusa
 }
 
 /// Reads what follows `fls` in a handler.
-#[tactic(auto, unfolding(crate::specs::Forms::read))]
+#[tactic(auto, unfolding(crate::specs::Reader::read))]
 fn fls_op(shape: Shape, cursor: &mut Cursor<'_>) -> Result<HandlerOp, LineRefusal>
     ensures value { Gives result (left cursor.new) (read shape (end_of cursor.old) (mapped Call fls_handler_call) (left cursor.old)) }
     ensures end { end_of cursor.new ≡ end_of cursor.old }
@@ -52,7 +53,7 @@ fn application(
     Ok(HandlerOp::App(inner))
 }
 
-#[tactic(auto, unfolding(crate::specs::Forms::read, crate::specs::Lines::op_form))]
+#[tactic(auto, unfolding(crate::specs::Reader::read, crate::specs::Lines::op_form))]
 fn ram_handler_op(
     word: &Token<'_>,
     shape: Shape,
@@ -70,7 +71,7 @@ fn ram_handler_op(
     }
 }
 
-#[tactic(auto, unfolding(crate::specs::Forms::read, crate::specs::Lines::op_form))]
+#[tactic(auto, unfolding(crate::specs::Reader::read, crate::specs::Lines::op_form))]
 fn fls_handler_op(
     word: &Token<'_>,
     shape: Shape,
@@ -102,7 +103,7 @@ fn is_op_word(word: &Token<'_>) -> bool
 }
 
 /// Refuses an operation of a full handler.
-#[tactic(auto, unfolding(crate::specs::Forms::read, crate::specs::Lines::op_form, crate::specs::Lines::app_op))]
+#[tactic(auto, unfolding(crate::specs::Reader::read, crate::specs::Lines::op_form, crate::specs::Lines::app_op))]
 fn one_too_many(
     word: &Token<'_>,
     callee: Module,

@@ -3,7 +3,8 @@
 ghost use Rattle.std.specs.Prelude.{◌≡◌, ◌≤◌, ◌+◌, ◌<◌, ◌∷◌, ℕ, [], length, Ok, Err, IfOk, IfErr};
 ghost use Rattle.mt_text.specs.Tokens.{tokens};
 ghost use Rattle.mt_text.specs.Forms.{done};
-ghost use Rattle.mt_text.specs.Lines.{run, Continues, Start, Requests, Ended, follows, line, begins_comment, running_module, line_of, Spells, Refuses};
+ghost use Rattle.mt_text.specs.Lines.{run, Start, Requests, Ended, follows, line, begins_comment, running_module, line_of, Spells, Refuses};
+ghost use Rattle.mt_text.specs.Reader.{Continues};
 ghost use Rattle.mt_text.specs.declared.line.Event.{Event};
 ghost use Rattle.mt_text.specs.Accepted.{IsAccepted};
 ghost use Rattle.mt_text.specs.Cursors.{left, end_of, token_view};

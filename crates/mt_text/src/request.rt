@@ -3,7 +3,8 @@
 ghost use Rattle.std.specs.Prelude.{◌≡◌, false, ◌<◌, ◌≤◌, ◌++◌, ◌∷◌, [], ℕ, List, length, IfOk};
 ghost use Rattle.mt_text.specs.Tokens.{begins_word};
 ghost use Rattle.mt_text.specs.Forms.{at_place, mark_at, done, begins_mark, begins_urgent};
-ghost use Rattle.mt_text.specs.Lines.{run, Continues, Requests, Handler, Operation, Open, behind_op, request, last_offset, line};
+ghost use Rattle.mt_text.specs.Lines.{run, Requests, Handler, Operation, Open, request, last_offset, line};
+ghost use Rattle.mt_text.specs.Reader.{Continues, behind_op};
 ghost use Rattle.mt_text.specs.declared.request.Mark.{Mark};
 ghost use Rattle.mt_text.specs.declared.line.Event.{Event};
 ghost use Rattle.mt_port.specs.declared.request.Request.{Request};

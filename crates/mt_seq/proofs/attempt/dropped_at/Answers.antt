@@ -1,9 +1,9 @@
-use Rattle.std.proofs.Common.{◌≡◌, ◌+◌, ◌-◌, ℕ, Bool, Option, None, true, false, List, length, refl, arith, ap, sym, ◌∙◌}
+use Rattle.std.proofs.Common.{◌≡◌, ◌+◌, ◌-◌, ℕ, Bool, Option, None, true, false, length, refl, ap, sym, ◌∙◌}
 use Rattle.std.specs.Prelude.{find, ◌&&◌, if◌then◌else◌}
 use Rattle.std.specs.List.{range_with_len}
 use Rattle.mt_plan.specs.declared.algorithm.Policy.{Policy}
 use Rattle.mt_plan.specs.Plan.{steps_of}
-use Rattle.mt_port.specs.Board.{is_due, is_urgent_due}
+use Rattle.mt_port.specs.Board.{is_due}
 use Rattle.mt_seq.specs.Attempts.{dropped_at, keeps_words}
 use Rattle.mt_seq.proofs.Moments.{find_same, reached}
 use Rattle.mt_seq.proofs.Attempts.{urgent}

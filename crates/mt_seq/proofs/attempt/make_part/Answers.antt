@@ -1,10 +1,8 @@
-use Rattle.std.proofs.Common.{◌≡◌, ◌+◌, ◌*◌, ◌<◌, ◌≤◌, length, refl, arith, ap, sym, subst, ◌∙◌}
+use Rattle.std.proofs.Common.{length, arith, ap, sym, subst, ◌∙◌}
 use Rattle.std.specs.Prelude.{All}
 use Rattle.std.proofs.lemmas.List.Elements.{All-nil}
 use Rattle.mt_word.specs.Word.{Fits}
-use Rattle.mt_plan.specs.Plan.{steps_of}
 use Rattle.mt_port.specs.declared.board.Shape.{Shape}
-use Rattle.mt_seq.specs.Sequence.{sequence_hold}
 use Rattle.mt_seq.specs.Stepping.{Stepping, job_of}
 use Rattle.mt_seq.proofs.Attempts.{begin_ready, course_end, keeping_hold, made_from, part_early, part_late, saved_all}
 use Rattle.mt_seq.proofs.attempt.make_part.Goals as goal
@@ -16,8 +14,12 @@ run-requires-clause-ready g c =
 
 pub run-requires-clause-to : goal.run-requires-clause-to
 run-requires-clause-to g c =
-    omega (arith, keeping_hold (job_of c.args.alg.now c.args.frame) c.args.slice.n c.requires.keeps, c.requires.until,
-    course_end (job_of c.args.alg.now c.args.frame) c.args.slice c.new-course.result c.new-course.ensures.course c.new-course.ensures.view)
+    omega (
+      arith,
+      keeping_hold (job_of c.args.alg.now c.args.frame) c.args.slice.n c.requires.keeps,
+      c.requires.until,
+      course_end (job_of c.args.alg.now c.args.frame) c.args.slice c.new-course.result c.new-course.ensures.course c.new-course.ensures.view,
+    )
 
 pub restore-requires-clause-held : goal.restore-requires-clause-held
 restore-requires-clause-held g c = c.run.ensures.runs.held ∙ c.requires.held

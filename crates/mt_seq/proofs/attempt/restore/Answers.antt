@@ -1,4 +1,4 @@
-use Rattle.std.proofs.Common.{◌≡◌, ◌+◌, ◌<◌, ℕ, map, refl, arith, ap, sym, subst, ◌∙◌}
+use Rattle.std.proofs.Common.{◌≡◌, ◌+◌, ℕ, map, refl, arith, ap, sym, subst, ◌∙◌}
 use Rattle.std.specs.Prelude.{slice_index}
 use Rattle.mt_word.specs.Word.{Fits}
 use Rattle.mt_plan.specs.Lists.{cells}

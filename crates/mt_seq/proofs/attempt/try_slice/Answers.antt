@@ -1,13 +1,11 @@
-use Rattle.std.proofs.Common.{◌≡◌, ◌+◌, ◌∙◌, ap, sym, refl, arith, ℕ, length, List, Option, Some, None, []}
+use Rattle.std.proofs.Common.{◌≡◌, ◌+◌, ◌∙◌, ap, sym, refl, arith, ℕ, length, Option, Some, None, []}
 use Rattle.mt_fault.specs.Faulty.{words_after}
-use Rattle.mt_fault.specs.Items.{Item, history, passes}
-use Rattle.mt_port.specs.Board.{Board, Logs}
+use Rattle.mt_fault.specs.Items.{history, passes}
 use Rattle.mt_seq.specs.Attempts.{attempt, attempt_to, attempt_length, attempt_touches, attempt_verdict, attempt_words, backed_out, verdict_to, dropped_at}
 use Rattle.mt_seq.specs.Sequence.{verdict_of, sequence, sequence_verdict}
 use Rattle.mt_seq.specs.Stepping.{job_of}
-use Rattle.mt_seq.specs.Tape.{touch_of}
 use Rattle.mt_seq.proofs.Makes.{Makes-same}
-use Rattle.mt_seq.proofs.Attempts.{Ran, IsDropped, ran, held_sequence, held_part, dropped}
+use Rattle.mt_seq.proofs.Attempts.{Ran, ran, held_sequence, held_part, dropped}
 use Rattle.mt_seq.proofs.attempt.try_slice.Given.{Over}
 use Rattle.mt_seq.proofs.attempt.try_slice.Goals as goal
 
@@ -53,7 +51,7 @@ make_part-requires-clause-until g c =
 
 part : (g : Over) (c : goal.After-release-in-Some g)
     → Ran (backed_out (g.P.Port.state c.args.port.now) (job_of c.args.alg.now c.args.frame) c.args.slice c.in-Some.until) (g.P.Port.state c.args.port.now) (g.P.Port.state c.release-in-Some.new.self) (g.P.Port.tape c.args.port.now) (g.P.Port.tape c.release-in-Some.new.self)
-      (passes (g.P.Port.state c.hold-in-Some.new.self).fault (g.P.Port.state c.hold-in-Some.new.self).words [] (backed_out (g.P.Port.state c.hold-in-Some.new.self) (job_of c.args.alg.now c.args.frame) c.args.slice c.in-Some.until))
+    (passes (g.P.Port.state c.hold-in-Some.new.self).fault (g.P.Port.state c.hold-in-Some.new.self).words [] (backed_out (g.P.Port.state c.hold-in-Some.new.self) (job_of c.args.alg.now c.args.frame) c.args.slice c.in-Some.until))
 part g c =
     let a = g.P.Port.state c.args.port.now in
     let b = g.P.Port.state c.hold-in-Some.new.self in

@@ -1,6 +1,7 @@
 use Rattle.std.proofs.Common.{sym, ◌∙◌, subst, codes}
 use Rattle.mt_text.specs.Cursors.{left, end_of, token_view}
-use Rattle.mt_text.specs.Forms.{Gives, mapped}
+use Rattle.mt_text.specs.Forms.{mapped}
+use Rattle.mt_text.specs.Reader.{Gives}
 use Rattle.mt_text.specs.Lines.{op_form, app_op}
 use Rattle.mt_text.specs.FlsServices.{fls_handler_call}
 use Rattle.mt_text.specs.RamServices.{ram_handler_call}

@@ -2,7 +2,8 @@ use Rattle.std.proofs.Common.{◌≡◌, ◌≤◌, ◌+◌, true, false, Bool, 
 use Rattle.mt_text.specs.declared.request.Mark.{Mark}
 use Rattle.mt_text.specs.Cursors.{left, end_of}
 use Rattle.mt_text.specs.Forms.{done}
-use Rattle.mt_text.specs.Lines.{run, behind_op, Open}
+use Rattle.mt_text.specs.Lines.{run, Open}
+use Rattle.mt_text.specs.Reader.{behind_op}
 use Rattle.mt_text.specs.declared.line.Event.{Event}
 use Rattle.mt_port.specs.declared.request.Request.{Request}
 use Rattle.mt_text.proofs.request.handler.Given as goal

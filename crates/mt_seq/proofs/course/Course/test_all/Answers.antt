@@ -1,4 +1,4 @@
-use Rattle.std.proofs.Common.{◌≡◌, ◌+◌, ◌-◌, ◌≤◌, arith, refl, ap}
+use Rattle.std.proofs.Common.{◌≡◌, ◌+◌, ◌-◌, arith, refl, ap}
 use Rattle.mt_seq.specs.Stepping.{Stepping, job_of, view_of}
 use Rattle.mt_seq.proofs.Runs.{runs_none, runs_more, ready_after}
 use Rattle.mt_seq.proofs.course.Course.test_all.Goals as goal

@@ -1,4 +1,4 @@
-use Rattle.std.proofs.Common.{◌≡◌, ◌+◌, ℕ, Bool, length, arith, ap, sym, ◌∙◌, true}
+use Rattle.std.proofs.Common.{◌≡◌, ◌+◌, ℕ, length, arith, ap, sym, ◌∙◌}
 use Rattle.std.specs.Prelude.{◌&&◌, nat_lt}
 use Rattle.mt_plan.specs.declared.algorithm.Policy.{Policy}
 use Rattle.mt_plan.specs.declared.algorithm.Policy.TheVariants.{NonDestructive}
@@ -6,7 +6,7 @@ use Rattle.mt_plan.specs.Plan.{steps_of}
 use Rattle.mt_seq.specs.declared.course.Course.{Course}
 use Rattle.mt_seq.specs.declared.sequence.Job.{Job}
 use Rattle.mt_seq.specs.Attempts.{keeps_words}
-use Rattle.mt_seq.specs.Stepping.{Stepping, view_of, IsCourse}
+use Rattle.mt_seq.specs.Stepping.{Stepping, IsCourse}
 use Rattle.mt_seq.proofs.Moves.{kept_whole}
 use Rattle.mt_seq.proofs.stepper.Stepper.can_back_out.Goals as goal
 
