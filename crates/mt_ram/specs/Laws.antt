@@ -1,5 +1,5 @@
 -- What running events and boundaries are known by.
-use Rattle.std.specs.Prelude.{ℕ, ◌≡◌, Bool, true, false, None}
+use Rattle.std.specs.Prelude.{ℕ, ◌≡◌, ◌<◌, length, Bool, true, false, None}
 use Rattle.mt_plan.specs.Plan.{IsAccepted}
 use Rattle.mt_port.specs.Board.{Board}
 use Rattle.mt_window.specs.Serving.{Scene, serve_due, serve_left}
@@ -9,7 +9,7 @@ use Rattle.mt_window.specs.Events.{Running as Events, entered, ran, event}
 use Rattle.mt_window.specs.Waits.{ServesInTime}
 use Rattle.mt_seq.specs.declared.sequence.Verdict.{Verdict}
 use Rattle.mt_blocks.specs.Slices.{Piece}
-use Rattle.mt_ram.specs.State.{RamTst, set_of, IsRunning, IsInside}
+use Rattle.mt_ram.specs.State.{RamTst, IsRam, set_of, IsRunning, IsInside}
 use Rattle.mt_ram.specs.Table.{Service, MainFunction, row, after, ram_table}
 use Rattle.mt_ram.specs.Event.{attempt_at, of_pass, ticking, partial_test}
 
@@ -29,6 +29,10 @@ unstopped = record of_pass { stops = λ r. false }
 -- a tick tests nothing where just after boundary 0 the module isn't RUNNING, or the mark is set
 abbrev pub TicksRest : Type 0
 TicksRest = (o : Scene RamTst) → (IsRunning o.callee.state → o.callee.mark ≡ true) → ran ticking o ≡ entered ticking o
+
+-- else it makes at least one attempt, where the module's set is an accepted one
+abbrev pub TicksTest : Type 0
+TicksTest = (o : Scene RamTst) → IsRam o.callee → IsRunning o.callee.state → o.callee.mark ≡ false → 0 < length (ran ticking o).attempts
 
 -- and it ends its group early only where the mark is set
 abbrev pub TicksEndTheirGroup : Type 0

@@ -2,11 +2,12 @@
 
 ghost use Rattle.mt_ram.specs.Event.{ticking, full_test};
 ghost use Rattle.mt_window.specs.Waits.{ServesInTime};
-ghost use Rattle.mt_ram.specs.Laws.{PartialTestsServeInTime, DroppedAttemptsLeaveWords, TicksRest, TicksEndTheirGroup, BoundariesMove, RequestsLeftMove, ServicesLeaveSetting};
+ghost use Rattle.mt_ram.specs.Laws.{PartialTestsServeInTime, DroppedAttemptsLeaveWords, TicksRest, TicksTest, TicksEndTheirGroup, BoundariesMove, RequestsLeftMove, ServicesLeaveSetting};
 
 use crate::pass_walk::PassWalk;
 use crate::state::Ram;
 use crate::test_walk::TestWalk;
+use mt_blocks::passes_go_on;
 use mt_seq::{attempts_on_sound_memory, urgent_requests_wait_shortly};
 use mt_window::{requests_are_served, waits_are_short};
 
@@ -34,8 +35,11 @@ pub fn dropped_attempts_leave_words()
 /// When a tick tests nothing, and when it ends its group early.
 pub fn ticks_end_by_the_mark()
     ensures rest { TicksRest }
+    ensures test { TicksTest }
     ensures group { TicksEndTheirGroup }
-{}
+{
+    passes_go_on();
+}
 
 /// What handlers' calls leave of the module.
 pub fn handlers_leave_results()

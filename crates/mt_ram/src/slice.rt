@@ -15,7 +15,10 @@ use mt_blocks::{
     ParamSet, Position, following, is_last, next_of_test, or_start, passes_go_on, slice_at,
 };
 use mt_port::Port;
-use mt_seq::{Frame, Verdict, attempts_are_counted, sequences_are_short, try_slice, urgent_requests_wait_shortly};
+use mt_seq::{
+    Frame, Verdict, attempts_are_counted, sequences_are_short, try_slice,
+    urgent_requests_wait_shortly,
+};
 
 // What a set says of a block, beside the algorithm.
 fn frame_of(set: &ParamSet, block: u32) -> Frame
