@@ -20,6 +20,7 @@ example = record {
       background = 0;
       atomic = 4;
       cells = 8;
+      retries = 2;
       blocks = record { span = record { first = 0; last = 9 }; policy = NonDestructive; fill = 0 } ∷ [];
     } ∷ [];
   };

@@ -1,4 +1,5 @@
 pub mod Blocks
+pub mod Marks
 pub mod Moves
 pub mod Settings
 pub mod Walks

@@ -1,16 +1,38 @@
 -- What running events and boundaries are known by.
-use Rattle.std.specs.Prelude.{ℕ, ◌≡◌, false, Option}
+use Rattle.std.specs.Prelude.{ℕ, ◌≡◌, true, false, Option}
 use Rattle.mt_window.specs.Serving.{Scene, serve_due, serve_left}
-use Rattle.mt_window.specs.Events.{Running as Events, event}
+use Rattle.mt_window.specs.Slices.{slices, unstopped}
+use Rattle.mt_window.specs.Rows.{work_in}
+use Rattle.mt_window.specs.Events.{Running as Events, entered, ran, event}
 use Rattle.mt_window.specs.Waits.{ServesInTime}
 use Rattle.mt_blocks.specs.Slices.{Piece}
+use Rattle.mt_fls.specs.declared.state.State.{State}
+use Rattle.mt_fls.specs.declared.state.State.TheVariants as state
 use Rattle.mt_fls.specs.State.{FlsTst, IsRunning, IsInside}
-use Rattle.mt_fls.specs.Table.{Service, after, fls_table}
-use Rattle.mt_fls.specs.Event.{foreground_test}
+use Rattle.mt_fls.specs.Table.{Service, MainFunction, row, after, fls_table}
+use Rattle.mt_fls.specs.Event.{of_pass, ticking, foreground_test}
 
 -- of each foreground test
 abbrev pub ForegroundTestsServeInTime : Type 0
 ForegroundTestsServeInTime = (block : ℕ) → ServesInTime (foreground_test block)
+
+-- the states in which a tick compares a group
+abbrev pub IsTicking : State → Type 0
+IsTicking state.Uninit = ⊥
+IsTicking state.Init = Unit {0}
+IsTicking (state.Running p) = Unit {0}
+IsTicking (state.Suspended p) = ⊥
+IsTicking state.Aborted = ⊥
+IsTicking (state.Foreground b) = ⊥
+
+-- a tick compares nothing where just after boundary 0 the module is in neither INIT nor RUNNING, or the mark is set
+abbrev pub TicksRest : Type 0
+TicksRest = (o : Scene FlsTst) → (IsTicking o.callee.state → o.callee.mark ≡ true) → ran ticking o ≡ entered ticking o
+
+-- and it ends its group early only where the mark is set
+abbrev pub TicksEndTheirGroup : Type 0
+TicksEndTheirGroup = (o : Scene FlsTst) → (ran ticking o).scene.callee.mark ≡ false
+    → ran ticking o ≡ slices (unstopped of_pass) (work_in (row o.callee MainFunction)) (entered ticking o)
 
 -- What handlers' calls leave of FlsTst. Setting, the last completed interval, the foreground result and the details
 -- stay. Where no Abort and no Suspend was accepted, a running pass goes on where it stood, and its interval with it.

@@ -2,7 +2,7 @@
 
 ghost use Rattle.mt_window.specs.Waits.{ServesInTime};
 ghost use Rattle.mt_fls.specs.Event.{ticking};
-ghost use Rattle.mt_fls.specs.Laws.{ForegroundTestsServeInTime, BoundariesMove, RequestsLeftMove, ServicesLeaveSetting};
+ghost use Rattle.mt_fls.specs.Laws.{ForegroundTestsServeInTime, TicksRest, TicksEndTheirGroup, BoundariesMove, RequestsLeftMove, ServicesLeaveSetting};
 
 use crate::block_walk::BlockWalk;
 use crate::pass_walk::PassWalk;
@@ -20,6 +20,12 @@ pub fn waits_of_running_calls()
     requests_are_served::<Fls, BlockWalk>();
     waits_are_short::<Fls, BlockWalk>();
 }
+
+/// When a tick compares nothing, and when it ends its group early.
+pub fn ticks_end_by_the_mark()
+    ensures rest { TicksRest }
+    ensures group { TicksEndTheirGroup }
+{}
 
 /// What handlers' calls leave of the module.
 pub fn handlers_leave_results()

@@ -11,7 +11,9 @@ mod slice;
 mod state;
 mod taken;
 
-pub use laws::{handlers_leave_results, services_leave_setting, waits_of_running_calls};
+pub use laws::{
+    handlers_leave_results, services_leave_setting, ticks_end_by_the_mark, waits_of_running_calls,
+};
 pub use state::{Back, Fls, State};
 
 #[cfg(test)]

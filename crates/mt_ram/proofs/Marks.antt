@@ -7,7 +7,7 @@ use Rattle.mt_window.specs.Serving.{Scene, scene}
 use Rattle.mt_window.specs.Slices.{Trail, started, taken_by, kept_attempt, next_attempt, scene_behind, after_attempt, tried, slices}
 use Rattle.mt_window.specs.Events.{entered}
 use Rattle.mt_window.specs.Rows.{work_in, inside_of}
-use Rattle.mt_window.specs.Kept.{cond_case, tried-keeps, slices-stopped, slices-keeps}
+use Rattle.mt_window.specs.Kept.{cond_case, StaysStopped, tried-keeps, slices-stopped, slices-keeps, slices-whole}
 use Rattle.mt_blocks.specs.Slices.{Piece, piece_at, from_place, from_next, next_of}
 use Rattle.mt_blocks.specs.Groups.{group, group_len}
 use Rattle.mt_blocks.specs.Laws.{PassesGoOn}
@@ -16,7 +16,7 @@ use Rattle.mt_ram.specs.declared.state.State.TheVariants.{Uninit, Stopped, Runni
 use Rattle.mt_ram.specs.State.{RamTst, IsRam, IsPlace, IsRunning, set_of, spans_in}
 use Rattle.mt_ram.specs.Table.{MainFunction, cell, group_at}
 use Rattle.mt_ram.specs.Event.{of_pass, ticking}
-use Rattle.mt_ram.specs.Laws.{unstopped, TicksRest, TicksTest, TicksEndTheirGroup}
+use Rattle.mt_ram.specs.Laws.{TicksRest, TicksTest, TicksEndTheirGroup}
 use Rattle.mt_ram.proofs.Moves.{boundaries_move}
 use Rattle.mt_ram.proofs.Sets.{accepted_set, accepted_spans}
 
@@ -42,47 +42,14 @@ taken_mark : (c : RamTst) (x : Piece) (failed : Bool) (v : Option Verdict) → (
 taken_mark c x failed None = refl
 taken_mark c x failed (Some v) = refl
 
-attempt_mark : (may : Bool) (x : Piece) (g : Trail RamTst) → (after_attempt of_pass may g x).scene.callee.mark ≡ false → g.scene.callee.mark ≡ false
-attempt_mark may x g e =
+stays_stopped : StaysStopped of_pass
+stays_stopped may x g e =
     let mid = scene_behind of_pass may g x in
     sym (taken_mark g.scene.callee x g.failed (next_attempt of_pass may g x).verdict) ∙ (boundaries_move mid).unmarked e
 
-slices_mark : (L : List Piece) (g : Trail RamTst) → (slices of_pass L g).scene.callee.mark ≡ false → g.scene.callee.mark ≡ false
-slices_mark L g = slices-keeps of_pass (λ (h : Trail RamTst). h.scene.callee.mark ≡ false → g.scene.callee.mark ≡ false) (λ may x h k e. k (attempt_mark may x h e)) L g (λ e. e)
-
-not_both : {x : Bool} → x ≡ true → x ≡ false → ⊥
-not_both e f = (let h : true ≡ false = sym e ∙ f in cc)
-
-tried_whole : (n : ℕ) (x : Piece) (g : Trail RamTst) → (tried of_pass n x g).scene.callee.mark ≡ false → tried of_pass n x g ≡ tried unstopped n x g
-tried_whole zero x g e = of g.scene.callee.mark refl e
-  where
-    of : (m : Bool) → g.scene.callee.mark ≡ m → (cond m g (after_attempt of_pass false g x)).scene.callee.mark ≡ false → cond m g (after_attempt of_pass false g x) ≡ after_attempt unstopped false g x
-    of true is e = absurd (not_both is e)
-    of false is e = refl
-tried_whole (suc n) x g e = of g.scene.callee.mark refl (tried_whole n x (after_attempt of_pass true g x)) e
-  where
-    next : (b : Bool) → ((tried of_pass n x (after_attempt of_pass true g x)).scene.callee.mark ≡ false → tried of_pass n x (after_attempt of_pass true g x) ≡ tried unstopped n x (after_attempt of_pass true g x))
-        → (cond b (after_attempt of_pass true g x) (tried of_pass n x (after_attempt of_pass true g x))).scene.callee.mark ≡ false
-        → cond b (after_attempt of_pass true g x) (tried of_pass n x (after_attempt of_pass true g x)) ≡ cond b (after_attempt unstopped true g x) (tried unstopped n x (after_attempt unstopped true g x))
-    next true more e = refl
-    next false more e = more e
-
-    of : (m : Bool) → g.scene.callee.mark ≡ m → ((tried of_pass n x (after_attempt of_pass true g x)).scene.callee.mark ≡ false → tried of_pass n x (after_attempt of_pass true g x) ≡ tried unstopped n x (after_attempt of_pass true g x))
-        → (cond m g (cond (is_some (next_attempt of_pass true g x).verdict) (after_attempt of_pass true g x) (tried of_pass n x (after_attempt of_pass true g x)))).scene.callee.mark ≡ false
-        → cond m g (cond (is_some (next_attempt of_pass true g x).verdict) (after_attempt of_pass true g x) (tried of_pass n x (after_attempt of_pass true g x)))
-        ≡ cond (is_some (next_attempt unstopped true g x).verdict) (after_attempt unstopped true g x) (tried unstopped n x (after_attempt unstopped true g x))
-    of true is more e = absurd (not_both is e)
-    of false is more e = next (is_some (next_attempt of_pass true g x).verdict) more e
-
-slices_whole : (L : List Piece) (g : Trail RamTst) → (slices of_pass L g).scene.callee.mark ≡ false → slices of_pass L g ≡ slices unstopped L g
-slices_whole [] g e = refl
-slices_whole (x ∷ more) g e =
-    let n = of_pass.retries g.scene.callee in
-    let h = tried of_pass n x g in
-    slices_whole more h e ∙ ap (slices unstopped more) (tried_whole n x g (slices_mark more h e))
 
 pub ticks_end_their_group : TicksEndTheirGroup
-ticks_end_their_group o e = slices_whole (work_in (cell o.callee MainFunction o.callee.state)) (entered ticking o) e
+ticks_end_their_group o e = slices-whole of_pass stays_stopped (work_in (cell o.callee MainFunction o.callee.state)) (entered ticking o) e
 
 -- ---- a tick that tests something
 

@@ -3,7 +3,7 @@ use Rattle.std.specs.Prelude.{ℕ, ◌≡◌, ◌<◌, length, Bool, true, false
 use Rattle.mt_plan.specs.Plan.{IsAccepted}
 use Rattle.mt_port.specs.Board.{Board}
 use Rattle.mt_window.specs.Serving.{Scene, serve_due, serve_left}
-use Rattle.mt_window.specs.Slices.{Tests, slices}
+use Rattle.mt_window.specs.Slices.{slices, unstopped}
 use Rattle.mt_window.specs.Rows.{work_in}
 use Rattle.mt_window.specs.Events.{Running as Events, entered, ran, event}
 use Rattle.mt_window.specs.Waits.{ServesInTime}
@@ -22,10 +22,6 @@ abbrev pub DroppedAttemptsLeaveWords : Type 0
 DroppedAttemptsLeaveWords = (may : Bool) (r : RamTst) (p : Piece) (b : Board) → b.fault ≡ None → IsAccepted (set_of r).alg
     → (attempt_at may r p b).verdict ≡ None → (attempt_at may r p b).words ≡ b.words
 
--- a tick that no mark stops
-abbrev pub unstopped : Tests RamTst Piece Verdict
-unstopped = record of_pass { stops = λ r. false }
-
 -- a tick tests nothing where just after boundary 0 the module isn't RUNNING, or the mark is set
 abbrev pub TicksRest : Type 0
 TicksRest = (o : Scene RamTst) → (IsRunning o.callee.state → o.callee.mark ≡ true) → ran ticking o ≡ entered ticking o
@@ -37,7 +33,7 @@ TicksTest = (o : Scene RamTst) → IsRam o.callee → IsRunning o.callee.state �
 -- and it ends its group early only where the mark is set
 abbrev pub TicksEndTheirGroup : Type 0
 TicksEndTheirGroup = (o : Scene RamTst) → (ran ticking o).scene.callee.mark ≡ false
-    → ran ticking o ≡ slices unstopped (work_in (row o.callee MainFunction)) (entered ticking o)
+    → ran ticking o ≡ slices (unstopped of_pass) (work_in (row o.callee MainFunction)) (entered ticking o)
 
 -- What handlers' calls leave of RamTst. Setting, selected set, number of cells and results stay. Where no Stop and no
 -- Suspend was accepted, a running pass goes on where it stood. Inside a full or partial test nothing changes.

@@ -1,13 +1,13 @@
 -- Relations between a module before and after that each of its steps keeps: the serving of requests and events keep them too.
 -- These are lemmas for the crates above; no contract cites them.
 use Rattle.std.specs.Prelude.{◌≡◌, ℕ, zero, suc, Bool, true, false, cond, is_some, List, [], ◌∷◌, ◌-◌, Option, Some, None, leb}
-use Rattle.std.proofs.Common.{refl, ap, ◌∙◌}
+use Rattle.std.proofs.Common.{refl, sym, ap, ◌∙◌}
 use Rattle.mt_port.specs.declared.request.HandlerCall.{HandlerCall}
 use Rattle.mt_port.specs.declared.request.HandlerOp.{HandlerOp}
 use Rattle.mt_port.specs.declared.request.HandlerOp.TheVariants.{App, Call}
 use Rattle.mt_port.specs.declared.request.Request.{Request}
 use Rattle.mt_window.specs.Serving.{Table, Scene, scene, operated, operated_all, callee_by, served, due_served, left_served}
-use Rattle.mt_window.specs.Slices.{Tests, Trail, taken_by, next_attempt, scene_behind, after_attempt, tried, slices}
+use Rattle.mt_window.specs.Slices.{Tests, Trail, taken_by, next_attempt, scene_behind, after_attempt, tried, slices, unstopped}
 use Rattle.mt_window.specs.Events.{Running, opened, entered, ran, returned, event}
 use Rattle.mt_window.specs.Rows.{Cell, by_row, CellKeeps}
 
@@ -62,6 +62,44 @@ tried-keeps t P step (suc n) x g p =
 pub slices-keeps : {C X V : Type 0} (t : Tests C X V) (P : Trail C → Type 0) → ((may : Bool) (x : X) (g : Trail C) → P g → P (after_attempt t may g x)) → (L : List X) (g : Trail C) → P g → P (slices t L g)
 slices-keeps t P step [] g p = p
 slices-keeps t P step (x ∷ more) g p = slices-keeps t P step more (tried t (t.retries g.scene.callee) x g) (tried-keeps t P step (t.retries g.scene.callee) x g p)
+
+-- Where no attempt lets a stopped module go on, slices behind which the module is not stopped are those of one that never stops.
+abbrev pub StaysStopped : {C X V : Type 0} → Tests C X V → Type 0
+StaysStopped {C} {X} t = (may : Bool) (x : X) (g : Trail C) → t.stops ((after_attempt t may g x).scene.callee) ≡ false → t.stops g.scene.callee ≡ false
+
+slices-unstopped : {C X V : Type 0} (t : Tests C X V) → StaysStopped t → (L : List X) (g : Trail C) → t.stops ((slices t L g).scene.callee) ≡ false → t.stops g.scene.callee ≡ false
+slices-unstopped {C} t stays L g = slices-keeps t (λ (h : Trail C). t.stops h.scene.callee ≡ false → t.stops g.scene.callee ≡ false) (λ may x h k e. k (stays may x h e)) L g (λ e. e)
+
+not_both : {x : Bool} → x ≡ true → x ≡ false → ⊥
+not_both e f = (let h : true ≡ false = sym e ∙ f in cc)
+
+tried-whole : {C X V : Type 0} (t : Tests C X V) (n : ℕ) (x : X) (g : Trail C) → t.stops ((tried t n x g).scene.callee) ≡ false → tried t n x g ≡ tried (unstopped t) n x g
+tried-whole t zero x g e = of (t.stops g.scene.callee) refl e
+  where
+    of : (m : Bool) → t.stops g.scene.callee ≡ m → t.stops ((cond m g (after_attempt t false g x)).scene.callee) ≡ false → cond m g (after_attempt t false g x) ≡ after_attempt (unstopped t) false g x
+    of true is e = absurd (not_both is e)
+    of false is e = refl
+tried-whole t (suc n) x g e = of (t.stops g.scene.callee) refl (tried-whole t n x (after_attempt t true g x)) e
+  where
+    next : (b : Bool) → (t.stops ((tried t n x (after_attempt t true g x)).scene.callee) ≡ false → tried t n x (after_attempt t true g x) ≡ tried (unstopped t) n x (after_attempt t true g x))
+        → t.stops ((cond b (after_attempt t true g x) (tried t n x (after_attempt t true g x))).scene.callee) ≡ false
+        → cond b (after_attempt t true g x) (tried t n x (after_attempt t true g x)) ≡ cond b (after_attempt (unstopped t) true g x) (tried (unstopped t) n x (after_attempt (unstopped t) true g x))
+    next true more e = refl
+    next false more e = more e
+
+    of : (m : Bool) → t.stops g.scene.callee ≡ m → (t.stops ((tried t n x (after_attempt t true g x)).scene.callee) ≡ false → tried t n x (after_attempt t true g x) ≡ tried (unstopped t) n x (after_attempt t true g x))
+        → t.stops ((cond m g (cond (is_some (next_attempt t true g x).verdict) (after_attempt t true g x) (tried t n x (after_attempt t true g x)))).scene.callee) ≡ false
+        → cond m g (cond (is_some (next_attempt t true g x).verdict) (after_attempt t true g x) (tried t n x (after_attempt t true g x)))
+        ≡ cond (is_some (next_attempt (unstopped t) true g x).verdict) (after_attempt (unstopped t) true g x) (tried (unstopped t) n x (after_attempt (unstopped t) true g x))
+    of true is more e = absurd (not_both is e)
+    of false is more e = next (is_some (next_attempt t true g x).verdict) more e
+
+pub slices-whole : {C X V : Type 0} (t : Tests C X V) → StaysStopped t → (L : List X) (g : Trail C) → t.stops ((slices t L g).scene.callee) ≡ false → slices t L g ≡ slices (unstopped t) L g
+slices-whole t stays [] g e = refl
+slices-whole t stays (x ∷ more) g e =
+    let n = t.retries g.scene.callee in
+    let h = tried t n x g in
+    slices-whole t stays more h e ∙ ap (slices (unstopped t) more) (tried-whole t n x g (slices-unstopped t stays more h e))
 
 -- a relation that serving and each step of the module keep is kept by the event
 pub record KeepsIn {C X V : Type 0} (r : Running C X V) (R : C → C → Type 0) : Type 0 where

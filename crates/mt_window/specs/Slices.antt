@@ -94,6 +94,10 @@ abbrev pub slices : {C X V : Type 0} → Tests C X V → List X → Trail C → 
 slices t [] g = g
 slices t (x ∷ more) g = slices t more (tried t (t.retries g.scene.callee) x g)
 
+-- the same tests, where the module never stops
+abbrev pub unstopped : {C X V : Type 0} → Tests C X V → Tests C X V
+unstopped t = record t { stops = λ c. false }
+
 -- a test begins, where a slice of it failed before or not
 abbrev pub started : {C : Type 0} → Bool → Scene C → Trail C
 started failed s = record { scene = s; failed = failed; touches = []; attempts = [] }
