@@ -19,7 +19,7 @@ use Rattle.mt_conf.specs.declared.config.ConfigRefusal.{ConfigRefusal}
 use Rattle.mt_conf.specs.Outcome.{document, first_broken, read_of, outcome as config_of, judged as config_judged, config_of as config_in}
 use Rattle.mt_conf.specs.Accepted.{IsAcceptedConfig}
 use Rattle.mt_conf.specs.Canonical.{config_text}
-use Rattle.mt_conf.proofs.Taken.{taken}
+use Rattle.mt_conf.specs.Laws.{AcceptedIsTaken}
 use Rattle.mt_replay.specs.declared.form.Form.TheVariants as forms
 use Rattle.mt_replay.specs.declared.form.Task.{Task}
 use Rattle.mt_replay.specs.declared.refused.Refused.TheVariants as because
@@ -34,17 +34,17 @@ use Rattle.mt_replay.proofs.Openings.{opening_parts}
 
 -- ---- the configuration
 
-judged_accepted : (t : Members) (broken : Option ConfigRefusal) (c : Config) → first_broken t ≡ broken → config_judged t broken ≡ Ok c → IsAcceptedConfig c
-judged_accepted t None c e h = let same : config_in t ≡ c = cc in subst IsAcceptedConfig same (taken t e)
-judged_accepted t (Some refusal) c e h = absurd cc
+judged_accepted : AcceptedIsTaken → (t : Members) (broken : Option ConfigRefusal) (c : Config) → first_broken t ≡ broken → config_judged t broken ≡ Ok c → IsAcceptedConfig c
+judged_accepted law t None c e h = let same : config_in t ≡ c = cc in subst IsAcceptedConfig same (law t e)
+judged_accepted law t (Some refusal) c e h = absurd cc
 
-read_accepted : (r : Option Members) (c : Config) → read_of r ≡ Ok c → IsAcceptedConfig c
-read_accepted None c h = absurd cc
-read_accepted (Some t) c h = judged_accepted t (first_broken t) c refl h
+read_accepted : AcceptedIsTaken → (r : Option Members) (c : Config) → read_of r ≡ Ok c → IsAcceptedConfig c
+read_accepted law None c h = absurd cc
+read_accepted law (Some t) c h = judged_accepted law t (first_broken t) c refl h
 
-config_accepted : (bytes : List ℕ) (c : Config) → config_of bytes ≡ Ok c → IsAcceptedConfig c
+config_accepted : AcceptedIsTaken → (bytes : List ℕ) (c : Config) → config_of bytes ≡ Ok c → IsAcceptedConfig c
 unfolding config_of
-config_accepted bytes c h = read_accepted (document bytes) c h
+config_accepted law bytes c h = read_accepted law (document bytes) c h
 
 -- ---- the script
 
@@ -131,13 +131,13 @@ script_of defect bytes config script c job short is =
 small : (n : ℕ) → n ≤ 65536 → nat_lt 65536 n ≡ false
 small n h = grind (arith, nat_tests)
 
-pub formatting_is_fixed : FormatIsFixed
-formatting_is_fixed defect bytes config script c job is ended again fits short =
+pub formatting_is_fixed : AcceptedIsTaken → FormatIsFixed
+formatting_is_fixed law defect bytes config script c job is ended again fits short =
     let m = started c defect in
     let run = run_script (formatting c.shape) Finished m 1 script in
     let opening = opening_text forms.Format c in
     let first = script_of defect bytes config script c job (not_too_long defect bytes config script (nat_lt 65536 (length config)) job refl ended) is in
     let whole : run.status ≡ status.Done = sym (ap (λ (o : Outcome). o.status) first) ∙ ended in
     let second = script_of defect (opening ++ run.text) (config_text c) (cut run.text) c (opening_parts c run.text) (small (length (config_text c)) fits) again in
-    let same = lines_repeat c.shape m 1 script.lines script.rest (config_accepted config c is).limits whole short in
+    let same = lines_repeat c.shape m 1 script.lines script.rest (config_accepted law config c is).limits whole short in
     ap (λ (o : Outcome). formatted defect o.text) first ∙ second ∙ ap (ran forms.Format opening) same ∙ sym first

@@ -1,5 +1,5 @@
 -- The requests of a replay are served in time.
-use Rattle.std.proofs.Common.{ℕ, ◌+◌, ◌≡◌, Bool, true, false, cond, List, [], ◌∷◌, ◌++◌, length, All, Option, Some, None, Result, Ok, Err, refl, sym, ap, ◌∙◌, arith, append_assoc, append_nil}
+use Rattle.std.proofs.Common.{ℕ, ◌+◌, ◌≡◌, Bool, true, false, cond, List, [], ◌∷◌, ◌++◌, length, All, Option, Some, None, Result, Ok, Err, refl, sym, ap, ◌∙◌, arith, append_assoc, append-nil}
 use Rattle.std.specs.Prelude.{nat_lt, is_some, IfOk}
 use Rattle.std.proofs.lemmas.List.Elements.{All-push, All-cons, filter-append}
 use Rattle.mt_port.specs.declared.board.Shape.{Shape}
@@ -52,7 +52,7 @@ running-short with call board callee requests serves ordered =
     let fresh : IsFresh s = record { empty = refl; start = refl; ordered = ordered } in
     let log = (event_of call s).after.log in
     record {
-      places = filter-append is_service log (Own (event_of call s).reply ∷ []) ∙ append_nil (services log) ∙ serves.places s fresh;
+      places = filter-append is_service log (Own (event_of call s).reply ∷ []) ∙ append-nil (services log) ∙ serves.places s fresh;
       short = All-push (IsShort (event_attempts call s)) log (Own (event_of call s).reply) (serves.short s fresh) tt;
       urgent = serves.urgent s fresh;
     }

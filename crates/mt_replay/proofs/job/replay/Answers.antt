@@ -35,14 +35,14 @@ fls_calls tick foreground (flss.Foreground block) = foreground block
 
 pub returns-in-Some-clause-latency : goal.returns-in-Some-clause-latency
 returns-in-Some-clause-latency g c =
-    let ram = c.ram_waits.ensures in
-    let fls = c.fls_waits.ensures in
+    let ram = c.waits_of_running_calls.ensures in
+    let fls = c.waits_of_running_calls-2.ensures in
     requests_are_served_in_time (record { ram = ram_calls ram.tick ram.full ram.partial; fls = fls_calls fls.tick fls.foreground }) (g.B.Port.state c.args.board.now).defect
 
 pub returns-in-None-clause-latency : goal.returns-in-None-clause-latency
 returns-in-None-clause-latency g c =
-    let ram = c.ram_waits.ensures in
-    let fls = c.fls_waits.ensures in
+    let ram = c.waits_of_running_calls.ensures in
+    let fls = c.waits_of_running_calls-2.ensures in
     requests_are_served_in_time (record { ram = ram_calls ram.tick ram.full ram.partial; fls = fls_calls fls.tick fls.foreground }) (g.B.Port.state c.args.board.now).defect
 
 pub returns-in-Some-clause-least : goal.returns-in-Some-clause-least

@@ -13,8 +13,8 @@ returns-in-Ok-clause-gives g c =
 pub returns-in-Err-clause-gives : goal.returns-in-Err-clause-gives
 returns-in-Err-clause-gives g c =
     let m : Machine = record { board = g.B.Port.state c.args.board.now; modules = c.args.modules.now } in
-    refused_line c.refuse_turn.result _ (refused m c.args.number c.kind_number.result c.in-Err.refusal.place) m _
+    refused_line c.refuse_turn.result _ (refused m c.args.number c.number.result c.in-Err.refusal.place) m _
     (λ follow. judged-is _ _ _ _ follow c.requires.few c.requires.short
     ∙ ap (λ (r : Result Line LineRefusal). answered c.args.task m c.args.number r follow) c.in-Err.ensures.value
-    ∙ ap (λ (k : ℕ). refused m c.args.number k c.in-Err.refusal.place) (sym c.kind_number.ensures))
+    ∙ ap (λ (k : ℕ). refused m c.args.number k c.in-Err.refusal.place) (sym c.number.ensures))
     (λ e. cc) (c.refuse_turn.ensures.gives m _)
