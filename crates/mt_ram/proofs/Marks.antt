@@ -47,7 +47,6 @@ stays_stopped may x g e =
     let mid = scene_behind of_pass may g x in
     sym (taken_mark g.scene.callee x g.failed (next_attempt of_pass may g x).verdict) ∙ (boundaries_move mid).unmarked e
 
-
 pub ticks_end_their_group : TicksEndTheirGroup
 ticks_end_their_group o e = slices-whole of_pass stays_stopped (work_in (cell o.callee MainFunction o.callee.state)) (entered ticking o) e
 
