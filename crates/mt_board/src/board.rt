@@ -105,6 +105,7 @@ impl SimBoard {
     }
 
     // Reads a RAM word.
+    #[inline(always)]
     fn load(&mut self, addr: u32) -> u64
         requires { addr < (sim_state self.old).shape.ram }
         ensures word { result ≡ answered (sim_state self.old).fault (sim_state self.old).words addr }
@@ -118,8 +119,8 @@ impl SimBoard {
         }
     }
 
-    // Writes a RAM word. A call of it is shorter than the place that it would take in each loop of a test.
-    #[inline(never)]
+    // Writes a RAM word.
+    #[inline(always)]
     fn store(&mut self, addr: u32, word: u64)
         requires addr { addr < (sim_state self.old).shape.ram }
         requires word { Fits (sim_state self.old).shape.width word }
@@ -168,13 +169,13 @@ impl Port for SimBoard {
 
     fn read(&mut self, addr: u32) -> u64 {
         self.count += 1;
-        self.tape.add(Touch::Read { addr });
+        self.tape.add_read(addr);
         self.load(addr)
     }
 
     fn write(&mut self, addr: u32, word: u64) {
         self.count += 1;
-        self.tape.add(Touch::Write { addr, word });
+        self.tape.add_write(addr, word);
         self.store(addr, word);
     }
 

@@ -9,8 +9,8 @@ use Rattle.mt_blocks.specs.declared.span.Span.{Span}
 use Rattle.mt_blocks.specs.Slices.{span_at}
 use Rattle.mt_blocks.specs.Accepted.{AreApart, spans_of}
 use Rattle.mt_conf.specs.Lookup.{number_at, fields}
-use Rattle.mt_conf.specs.Rules.{span_of, meet, any_meet, small}
-use Rattle.mt_conf.specs.Outcome.{block_of}
+use Rattle.mt_conf.specs.Rules.{span_of, meet, any_meet}
+use Rattle.mt_conf.specs.Outcome.{small, block_of}
 use Rattle.mt_conf.proofs.Numbers.{apart}
 
 -- the first and the last number of a block

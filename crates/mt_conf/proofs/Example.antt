@@ -5,13 +5,14 @@ use Rattle.mt_word.specs.declared.Width.TheVariants.{W8}
 use Rattle.mt_march.specs.Known.{march_c_minus}
 use Rattle.mt_plan.specs.declared.algorithm.Algorithm.TheVariants.{March as Marches}
 use Rattle.mt_plan.specs.declared.algorithm.Policy.TheVariants.{NonDestructive}
-use Rattle.mt_text.specs.Digits.{hex_text}
+use Rattle.mt_hex.specs.Digits.{hex_text}
 use Rattle.mt_conf.specs.declared.config.Config.{Config}
 use Rattle.mt_conf.specs.Canonical.{block_text, set_text, flash_block_text, fls_text, top_text, config_text}
 
 -- March C- runs over ten words, and no flash is tested
 abbrev pub example : Config
 example = record {
+  version = 1;
   shape = record { width = W8; ram = 10; flash = 0 };
   initial = 0;
   ram_tst = record {

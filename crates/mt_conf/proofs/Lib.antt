@@ -7,6 +7,8 @@ pub mod Numbers
 pub mod Apart
 pub mod Sets
 pub mod FlashBlocks
+pub mod Entries
 pub mod Taken
+pub mod Fields
 pub mod Parts
 pub mod Example

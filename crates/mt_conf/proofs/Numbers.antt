@@ -1,9 +1,11 @@
 -- Numbers within bounds.
-use Rattle.std.proofs.Common.{◌≡◌, ◌⊎◌, ℕ, ℤ, pos, negsuc, ◌<◌, ◌≤◌, Bool, true, false, refl, ap, arith, inl, inr}
-use Rattle.std.specs.Prelude.{not, ◌&&◌, int_lt, int_le, nat_lt}
+use Rattle.std.proofs.Common.{◌≡◌, ◌⊎◌, ℕ, ℤ, pos, negsuc, ◌+◌, ◌-◌, ◌<◌, ◌≤◌, Bool, true, false, refl, sym, ap, ◌∙◌, subst, arith, inl, inr}
+use Rattle.std.proofs.lemmas.Int.{ints}
+use Rattle.std.specs.Prelude.{not, ◌+ℤ◌, ◌-ℤ◌, ◌&&◌, int_lt, int_le, nat_lt}
 use Rattle.std.proofs.lemmas.Bool.{and_parts, and_cases}
 use Rattle.std.proofs.lemmas.Bool.Decides.{nat_tests}
-use Rattle.mt_conf.specs.Rules.{is_within, small}
+use Rattle.mt_conf.specs.Rules.{is_within}
+use Rattle.mt_conf.specs.Outcome.{small}
 
 pub not_false : (b : Bool) → not b ≡ false → b ≡ true
 not_false true h = refl
@@ -42,6 +44,14 @@ cells a z h =
     let c = cells_by a z 65536 (omega arith) atomic.0 later.0 later.1 in
     (atomic.1, atomic.2, c.0, c.1)
 
+-- both are what they are as small numbers
+pub cells_exact : (a z : ℤ) → not (is_within (pos 1) (pos 64) a && is_within a (pos 65536) z) ≡ false → (a ≡ pos (small a)) × (z ≡ pos (small z))
+cells_exact a z h =
+    let parts = and_parts (is_within (pos 1) (pos 64) a) (is_within a (pos 65536) z) (not_false _ h) in
+    let atomic = within a 1 64 (omega arith) parts.0 in
+    let later = and_parts (int_le a z) (int_le z (pos 65536)) parts.1 in
+    (atomic.0, (within_by z (small a) 65536 (omega arith) (rw atomic.0 at later.0) later.1).0)
+
 -- a first and a last number in order, below a limit
 order_by : (f l r : ℤ) → r ≡ pos (small r) → small r ≤ 65536 → int_le (pos 0) f ≡ true → int_le f l ≡ true → int_lt l r ≡ true
     → (f ≡ pos (small f)) × (l ≡ pos (small l)) × (small f ≤ small l) × (small l < small r)
@@ -63,7 +73,7 @@ order f l r e few h =
     let low = and_parts (int_le (pos 0) f) (int_le f l) parts.0 in
     order_by f l r e few low.0 low.1 parts.1
 
-nat_apart : (a b c d : ℕ) → (int_le (pos a) (pos d) && int_le (pos c) (pos b)) ≡ false → (b < c) ⊎ (d < a)
+pub nat_apart : (a b c d : ℕ) → (int_le (pos a) (pos d) && int_le (pos c) (pos b)) ≡ false → (b < c) ⊎ (d < a)
 nat_apart a b c d h =
     elim (and_cases (int_le (pos a) (pos d)) (int_le (pos c) (pos b)) h)
     [ inl first ↦ inr (grind (arith, nat_tests, first)) | inr second ↦ inl (grind (arith, nat_tests, second)) ]
@@ -71,3 +81,37 @@ nat_apart a b c d h =
 -- two spans that do not meet
 pub apart : (a b c d : ℤ) → a ≡ pos (small a) → b ≡ pos (small b) → c ≡ pos (small c) → d ≡ pos (small d) → (int_le a d && int_le c b) ≡ false → (small b < small c) ⊎ (small d < small a)
 apart a b c d ea eb ec ed h = nat_apart (small a) (small b) (small c) (small d) (rw (ea, eb, ec, ed) at h)
+
+-- ---- copies
+
+less : (a f : ℕ) → f ≤ a → pos a -ℤ pos f ≡ pos (a - f)
+less a f h = omega (arith, ints)
+
+copy_nat : (c f l : ℕ) → f ≤ l → pos c +ℤ pos l -ℤ pos f ≡ pos (c + (l - f))
+copy_nat c f l h = less (c + l) f (omega arith) ∙ ap pos (omega arith)
+
+-- the numbers of a block whose copy is within a limit
+pub record IsWithinCopy (c f l r : ℤ) : Type 0 where
+  pub copy : c ≡ pos (small c)
+  pub last : c +ℤ l -ℤ f ≡ pos (small c + (small l - small f))
+  pub inside : small c + (small l - small f) < small r
+
+copy_by : (c : ℤ) (f l r : ℕ) → f ≤ l → r ≤ 65536 → int_le (pos 0) c ≡ true → int_lt (c +ℤ pos l -ℤ pos f) (pos r) ≡ true
+    → (n : ℕ) × (c ≡ pos n) × (n + (l - f) < r)
+copy_by (pos n) f l r le few low high = let e = copy_nat n f l le in (n, refl, lt_nat (n + (l - f)) r (rw e at high))
+copy_by (negsuc n) f l r le few low high = absurd cc
+
+pub copy_within : (c f l r : ℤ) → f ≡ pos (small f) → l ≡ pos (small l) → r ≡ pos (small r) → small f ≤ small l → small r ≤ 65536 → (int_le (pos 0) c && int_lt (c +ℤ l -ℤ f) r) ≡ true
+    → IsWithinCopy c f l r
+copy_within c f l r ef el er le few h =
+    let parts = and_parts (int_le (pos 0) c) (int_lt (c +ℤ l -ℤ f) r) h in
+    let high : int_lt (c +ℤ pos (small l) -ℤ pos (small f)) (pos (small r)) ≡ true = rw (← ef, ← el, ← er) parts.1 in
+    let m = copy_by c (small f) (small l) (small r) le few parts.0 high in
+    let e : m.0 ≡ small (pos m.0) = small_nat m.0 (let lt = m.2 in omega arith) in
+    let same : m.0 ≡ small c = e ∙ ap small (sym m.1) in
+    let exact : c ≡ pos (small c) = m.1 ∙ ap pos same in
+    record {
+      copy = exact;
+      last = ap (λ (z : ℤ). z +ℤ l -ℤ f) exact ∙ ap (λ (z : ℤ). pos (small c) +ℤ z -ℤ f) el ∙ ap (λ (z : ℤ). pos (small c) +ℤ pos (small l) -ℤ z) ef ∙ copy_nat (small c) (small f) (small l) le;
+      inside = subst (λ (n : ℕ). n + (small l - small f) < small r) same m.2;
+    }

@@ -5,8 +5,8 @@ use Rattle.std.specs.List.{list_any, list_all, AllByRecursion}
 use Rattle.std.proofs.lemmas.Bool.{and_parts, or_parts}
 use Rattle.std.proofs.lemmas.List.Elements.{All-from_recursion}
 use Rattle.toml.specs.Data.{Data, string, integer, float, boolean, datetime, array, table, Members, as_table, as_array, get_member}
-use Rattle.mt_conf.specs.Lookup.{items_or, array_at, fields}
-use Rattle.mt_conf.specs.Rules.{in_table, other_type, has_tables}
+use Rattle.mt_conf.specs.Lookup.{has_key, items_or, array_at, fields}
+use Rattle.mt_conf.specs.Rules.{in_table, has_tables}
 
 abbrev pub is_table : Data → Bool
 is_table d = is_some (as_table d)
@@ -49,6 +49,11 @@ tables_by (Some d) h = true_by (is_some (as_array d)) (list_all is_table (items_
     true_by true false k = absurd cc
     true_by false b k = absurd cc
 
+-- a test that no item passes fails at each
+pub each_item : {X : Type 0} (test : X → Bool) (xs : List X) → list_any test xs ≡ false → AllByRecursion (λ x. test x ≡ false) xs
+each_item test [] h = tt
+each_item test (x ∷ xs) h = let parts = or_parts (test x) (list_any test xs) h in (parts.0, each_item test xs parts.1)
+
 -- the members of an array of tables are tables
-pub are_tables : (key : List ℕ) (t : Members) → other_type has_tables key t ≡ false → list_all is_table (array_at key t) ≡ true
+pub are_tables : (key : List ℕ) (t : Members) → (has_key key t && not (has_tables key t)) ≡ false → list_all is_table (array_at key t) ≡ true
 are_tables key t h = tables_by (get_member key t) h

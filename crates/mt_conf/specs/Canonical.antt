@@ -1,9 +1,9 @@
 -- The one text of a configuration.
-use Rattle.std.specs.Prelude.{ℕ, codes, List, ◌++◌, flat_map}
+use Rattle.std.specs.Prelude.{ℕ, ◌==◌, codes, List, [], ◌++◌, flat_map, if◌then◌else◌}
 use Rattle.std.specs.Fmt.{decimal}
 use Rattle.mt_word.specs.declared.Width.{Width}
 use Rattle.mt_word.specs.Word.{width_bits}
-use Rattle.mt_text.specs.Digits.{word_text}
+use Rattle.mt_hex.specs.Digits.{word_text}
 use Rattle.mt_march.specs.Canonical as march
 use Rattle.mt_plan.specs.declared.algorithm.Algorithm.{Algorithm}
 use Rattle.mt_plan.specs.declared.algorithm.Algorithm.TheVariants.{Checkerboard, March as Marches, WalkPath, Galpat, TransparentGalpat}
@@ -35,6 +35,13 @@ abbrev pub policy_name : Policy → List ℕ
 policy_name NonDestructive = codes "non-destructive"
 policy_name Destructive = codes "destructive"
 
+abbrev pub algorithm_name : Algorithm → List ℕ
+algorithm_name Checkerboard = codes "checkerboard"
+algorithm_name (Marches m) = codes "march"
+algorithm_name WalkPath = codes "walk-path"
+algorithm_name Galpat = codes "galpat"
+algorithm_name TransparentGalpat = codes "transparent-galpat"
+
 -- the algorithm; a march is written for the algorithm `march` alone
 abbrev pub algorithm_entries : Algorithm → List ℕ
 algorithm_entries Checkerboard = text_entry (codes "algorithm") (codes "checkerboard")
@@ -55,18 +62,23 @@ block_text width b =
 abbrev pub blocks_text : Width → List Block → List ℕ
 blocks_text width blocks = flat_map (block_text width) blocks
 
+-- how often a test of a slice may be broken off, which version 2 alone says
+abbrev pub retries_entry : ℕ → ℕ → List ℕ
+retries_entry version retries = if version == 2 then number_entry (codes "retries") retries else []
+
 -- a set, and then its blocks
-unfoldable pub set_text : Width → ParamSet → List ℕ
-set_text width set =
+unfoldable pub set_text : ℕ → Width → ParamSet → List ℕ
+set_text version width set =
     header (codes "[[set]]")
     ++ algorithm_entries set.alg
     ++ text_entry (codes "background") (word_text width set.background)
     ++ number_entry (codes "atomic") set.atomic
     ++ number_entry (codes "cells") set.cells
+    ++ retries_entry version set.retries
     ++ blocks_text width set.blocks
 
-abbrev pub sets_text : Width → List ParamSet → List ℕ
-sets_text width sets = flat_map (set_text width) sets
+abbrev pub sets_text : ℕ → Width → List ParamSet → List ℕ
+sets_text version width sets = flat_map (set_text version width) sets
 
 -- ---- FlsTst
 
@@ -96,12 +108,12 @@ fls_text fls =
 -- the top table
 unfoldable pub top_text : Config → List ℕ
 top_text config =
-    number_entry (codes "version") 1
+    number_entry (codes "version") config.version
     ++ number_entry (codes "width") (width_bits config.shape.width)
     ++ number_entry (codes "ram") config.shape.ram
     ++ number_entry (codes "flash") config.shape.flash
     ++ text_entry (codes "initial") (word_text config.shape.width config.initial)
 
--- the canonical text: each key is written, also where it has its default
+-- the canonical text: each key that the version has is written, also where it has its default
 unfoldable pub config_text : Config → List ℕ
-config_text config = top_text config ++ sets_text config.shape.width config.ram_tst.sets ++ fls_text config.fls_tst
+config_text config = top_text config ++ sets_text config.version config.shape.width config.ram_tst.sets ++ fls_text config.fls_tst

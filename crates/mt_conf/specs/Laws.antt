@@ -4,6 +4,7 @@ use Rattle.toml.specs.Data.{Members}
 use Rattle.mt_conf.specs.declared.config.ConfigRefusal.{ConfigRefusal}
 use Rattle.mt_conf.specs.Outcome.{rules_of, first_broken, config_of}
 use Rattle.mt_conf.specs.Accepted.{IsAcceptedConfig}
+use Rattle.mt_conf.specs.Fields.{IsOfTable}
 
 -- the refusal is that of a broken rule, and no rule before it is broken
 abbrev pub IsFirst : List (Option ConfigRefusal) → ConfigRefusal → Type 0
@@ -20,3 +21,7 @@ AcceptedBreaksNoRule = (t : Members) → first_broken t ≡ None → All (λ rul
 -- where nothing is refused, the configuration is one that the modules take
 abbrev pub AcceptedIsTaken : Type 0
 AcceptedIsTaken = (t : Members) → first_broken t ≡ None → IsAcceptedConfig (config_of t)
+
+-- where nothing is refused, each field of the configuration is the table's entry of that name, or its default
+abbrev pub FieldsAreEntries : Type 0
+FieldsAreEntries = (t : Members) → first_broken t ≡ None → IsOfTable t (config_of t)

@@ -1,7 +1,9 @@
 pub mod Lookup
+pub mod Schema
 pub mod Rules
 pub mod Tests
 pub mod Outcome
 pub mod Accepted
 pub mod Canonical
+pub mod Fields
 pub mod Laws

@@ -1,9 +1,10 @@
 -- What a text is read as.
-use Rattle.std.specs.Prelude.{ℕ, ◌+◌, ◌-◌, ◌*◌, nat_le, ◌++◌, List, [], ◌∷◌, map, codes, Bool, if◌then◌else◌, Option, Some, None, option_map, Result, Ok, Err}
+use Rattle.std.specs.Prelude.{ℕ, ◌+◌, ◌^◌, nat_lt, ℤ, pos, negsuc, ◌++◌, List, [], ◌∷◌, map, codes, Bool, if◌then◌else◌, Option, Some, None, option_map, unwrap_or, Result, Ok, Err}
 use Rattle.std.specs.Str.{is_utf8}
 use Rattle.toml.specs.Data.{Data, Members, get_member}
 use Rattle.toml.specs.Parse.{parse_document}
 use Rattle.mt_word.specs.declared.Width.{Width}
+use Rattle.mt_hex.specs.Hex.{word_of}
 use Rattle.mt_march.specs.declared.march.Element.{Element}
 use Rattle.mt_march.specs.declared.march.March.{March}
 use Rattle.mt_march.specs.declared.march.MarchRefusal.{MarchRefusal}
@@ -15,10 +16,15 @@ use Rattle.mt_plan.specs.declared.algorithm.Algorithm.TheVariants.{Checkerboard,
 use Rattle.mt_plan.specs.declared.algorithm.Policy.TheVariants.{NonDestructive, Destructive}
 use Rattle.mt_port.specs.declared.board.Shape.{Shape}
 use Rattle.mt_blocks.specs.declared.config.Block.{Block}
+use Rattle.mt_blocks.specs.declared.config.FlashBlock.{FlashBlock}
 use Rattle.mt_blocks.specs.declared.config.ParamSet.{ParamSet}
 use Rattle.mt_blocks.specs.declared.config.FlsConfig.{FlsConfig}
 use Rattle.mt_conf.specs.Lookup.{has_key, number_at, text_at, array_at, fields}
-use Rattle.mt_conf.specs.Rules.{unknown_key, missing_key, wrong_type, wrong_version, wrong_width, wrong_size, wrong_word, wrong_count, wrong_algorithm, transparent_destructive, wrong_block_range, overlap, wrong_cells_range, wrong_flash_range, copy_overlap, width_at, is_word, is_named, small, flash_block_of}
+use Rattle.mt_conf.specs.declared.shape.KeyRule.TheVariants.{UnknownKey as Unknown, MissingKey as Missing, WrongType as WrongKind}
+use Rattle.mt_conf.specs.declared.schema.Part.{Part}
+use Rattle.mt_conf.specs.declared.schema.Part.TheVariants.{Top, Set}
+use Rattle.mt_conf.specs.Schema.{default_number, otherwise_of}
+use Rattle.mt_conf.specs.Rules.{breaks_somewhere, wrong_version, wrong_width, wrong_size, wrong_word, wrong_count, wrong_algorithm, transparent_destructive, wrong_block_range, overlap, wrong_cells_range, wrong_flash_range, copy_overlap, is_version, width_at, is_named}
 use Rattle.mt_conf.specs.declared.config.Config.{Config}
 use Rattle.mt_conf.specs.declared.config.ConfigRefusal.{ConfigRefusal}
 use Rattle.mt_conf.specs.declared.config.ConfigRefusal.TheVariants.{NotToml, UnknownKey, MissingKey, WrongType, Version, Width as BadWidth, Size, Word, Count, Algorithm as BadAlgorithm, March as BadMarch, TransparentDestructive, BlockRange, Overlap, CellsRange, FlashRange, CopyOverlap, NoMemory}
@@ -54,7 +60,7 @@ broken b refusal = if b then Some refusal else None
 -- the rules of a table, in the order of their numbers, each with the refusal where it is broken
 abbrev pub rules_before_march : Members → List (Option ConfigRefusal)
 rules_before_march t =
-    broken (unknown_key t) UnknownKey ∷ broken (missing_key t) MissingKey ∷ broken (wrong_type t) WrongType ∷ broken (wrong_version t) Version ∷ broken (wrong_width t) BadWidth
+    broken (breaks_somewhere Unknown t) UnknownKey ∷ broken (breaks_somewhere Missing t) MissingKey ∷ broken (breaks_somewhere WrongKind t) WrongType ∷ broken (wrong_version t) Version ∷ broken (wrong_width t) BadWidth
     ∷ broken (wrong_size t) Size ∷ broken (wrong_word t) Word ∷ broken (wrong_count t) Count ∷ broken (wrong_algorithm t) BadAlgorithm ∷ []
 
 abbrev pub rules_after_march : Members → List (Option ConfigRefusal)
@@ -73,24 +79,32 @@ first_of (rule ∷ rules) = first_some rule (first_of rules)
 unfoldable pub first_broken : Members → Option ConfigRefusal
 first_broken t = first_of (rules_of t)
 
--- the value of hexadecimal digits of either case
-abbrev pub hex_digit : ℕ → ℕ
-hex_digit b = if nat_le b 57 then b - 48 else (if nat_le 97 b then b - 87 else b - 55)
+-- a number that fits 32 bits as it is
+abbrev pub small : ℤ → ℕ
+small (pos n) = if nat_lt n (2 ^ 32) then n else 0
+small (negsuc n) = 0
 
-abbrev pub hex : ℕ → List ℕ → ℕ
-hex n [] = n
-hex n (b ∷ bs) = hex (16 * n + hex_digit b) bs
+-- the number at a key, and the default of its row where the table leaves it out
+abbrev pub number_in : Part → List ℕ → Members → ℕ
+number_in part key t = if has_key key t then small (number_at key t) else default_number (otherwise_of part key)
 
--- the word at a key, and all bits 0 where there is none
-unfoldable pub word_of : Width → List ℕ → ℕ
-word_of width text = if is_word width text then hex 0 text else 0
+-- the word that a text spells, and all bits 0 where it spells none
+abbrev pub word_or_zero : Width → List ℕ → ℕ
+word_or_zero width text = unwrap_or (word_of width text) 0
 
 -- a block by its entries
 unfoldable pub block_of : Width → Members → Block
 block_of width b = record {
   span = record { first = small (number_at (codes "first") b); last = small (number_at (codes "last") b) };
   policy = if is_named (codes "policy") (codes "destructive") b then Destructive else NonDestructive;
-  fill = word_of width (text_at (codes "fill") b);
+  fill = word_or_zero width (text_at (codes "fill") b);
+}
+
+-- a block of flash words by its entries
+unfoldable pub flash_block_of : Members → FlashBlock
+flash_block_of b = record {
+  span = record { first = small (number_at (codes "first") b); last = small (number_at (codes "last") b) };
+  copy = small (number_at (codes "copy") b);
 }
 
 -- the march of a set, and March C- where none is written
@@ -113,11 +127,11 @@ algorithm_at s =
 unfoldable pub set_of : Width → Members → ParamSet
 set_of width s = record {
   alg = algorithm_at s;
-  background = word_of width (text_at (codes "background") s);
+  background = word_or_zero width (text_at (codes "background") s);
   atomic = small (number_at (codes "atomic") s);
   cells = small (number_at (codes "cells") s);
   blocks = map (λ d. block_of width (fields d)) (array_at (codes "block") s);
-  retries = 2;
+  retries = number_in Set (codes "retries") s;
 }
 
 -- the flash configuration by the entries of `fls`, and its defaults where there is none
@@ -142,13 +156,18 @@ fls_at t = fls_or (get_member (codes "fls") t)
 
 -- the shape by the entries of the top table
 unfoldable pub shape_of : Members → Shape
-shape_of t = record { width = width_at t; ram = small (number_at (codes "ram") t); flash = small (number_at (codes "flash") t) }
+shape_of t = record { width = width_at t; ram = small (number_at (codes "ram") t); flash = number_in Top (codes "flash") t }
+
+-- the version, which is 2 where it is not 1
+abbrev pub version_at : Members → ℕ
+version_at t = if is_version 1 t then 1 else 2
 
 -- the configuration by the entries of a table
 unfoldable pub config_of : Members → Config
 config_of t = record {
+  version = version_at t;
   shape = shape_of t;
-  initial = word_of (width_at t) (text_at (codes "initial") t);
+  initial = word_or_zero (width_at t) (text_at (codes "initial") t);
   ram_tst = record { sets = map (λ d. set_of (width_at t) (fields d)) (array_at (codes "set") t) };
   fls_tst = fls_at t;
 }

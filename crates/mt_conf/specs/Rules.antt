@@ -1,14 +1,20 @@
 -- The rules, each a test of the whole table: true where it is broken.
-use Rattle.std.specs.Prelude.{ℕ, ◌+◌, ◌-◌, ◌/◌, ◌==◌, ℤ, pos, negsuc, int_lt, int_le, nat_lt, nat_le, List, [], ◌∷◌, length, map, codes, Bool, false, not, ◌&&◌, ◌||◌, if◌then◌else◌, Option, Some, None, is_none, is_some, unwrap_or, ◌^◌}
+use Rattle.std.specs.Prelude.{ℕ, ◌+◌, ◌-◌, ℤ, ◌+ℤ◌, ◌-ℤ◌, pos, negsuc, int_lt, int_le, nat_lt, nat_le, List, [], ◌∷◌, length, map, codes, Bool, false, not, ◌&&◌, ◌||◌, if◌then◌else◌, Option, Some, None, is_none, is_some, unwrap_or, ◌^◌}
 use Rattle.std.specs.List.{list_any, list_all}
 use Rattle.std.specs.Ordering.{int_eq}
 use Rattle.std.specs.Str.{bytes_eq}
 use denote.Ref.{Bor}
 use Rattle.mt_word.specs.declared.Width.{Width}
-use Rattle.mt_word.specs.declared.Width.TheVariants.{W8, W16, W32}
-use Rattle.mt_word.specs.Word.{width_bits}
-use Rattle.mt_blocks.specs.declared.config.FlashBlock.{FlashBlock}
+use Rattle.mt_word.specs.declared.Width.TheVariants.{W8, W16, W32, W64}
+use Rattle.mt_hex.specs.Hex.{word_of}
 use Rattle.toml.specs.Data.{Data, table, Members, no_members, member, as_table, get_member}
+use Rattle.mt_conf.specs.declared.schema.Part.{Part}
+use Rattle.mt_conf.specs.declared.schema.Part.TheVariants.{Top, Set, Block, Fls, FlashBlock}
+use Rattle.mt_conf.specs.declared.schema.Kind.{Kind}
+use Rattle.mt_conf.specs.declared.schema.Kind.TheVariants.{Number, Text, Table, Tables}
+use Rattle.mt_conf.specs.declared.shape.KeyRule.{KeyRule}
+use Rattle.mt_conf.specs.declared.shape.KeyRule.TheVariants.{UnknownKey, MissingKey, WrongType}
+use Rattle.mt_conf.specs.Schema.{Row, is_refused, rows_of}
 use Rattle.mt_conf.specs.Lookup.{has_key, has_number, has_text, has_array, has_table, number_at, text_at, array_at}
 
 -- the test holds of a value that is a table
@@ -46,112 +52,85 @@ texts names = map (λ name. name.now) names
 abbrev pub is_one_of : List (List ℕ) → List ℕ → Bool
 is_one_of names key = list_any (λ name. bytes_eq name key) names
 
--- the keys of each table, and those that it must have
+-- ---- keys and types, by the rows of the tables
+
+-- some table of the document passes, with its part: the top table, a set or one of its blocks, or `fls` or one of its blocks
+abbrev pub any_in_set : (Part → Members → Bool) → Members → Bool
+any_in_set test s = test Set s || any_block (test Block) s
+
+abbrev pub any_in_fls : (Part → Members → Bool) → Members → Bool
+any_in_fls test f = test Fls f || any_flash_block (test FlashBlock) f
+
+abbrev pub any_part : (Part → Members → Bool) → Members → Bool
+any_part test t = (test Top t || any_set (any_in_set test) t) || in_fls (any_in_fls test) t
+
+-- the keys of a table
 abbrev pub keys_of : Members → List (List ℕ)
 keys_of no_members = []
 keys_of (member key d ms) = key ∷ keys_of ms
 
-abbrev pub top_keys : List (List ℕ)
-top_keys = codes "version" ∷ codes "width" ∷ codes "ram" ∷ codes "flash" ∷ codes "initial" ∷ codes "set" ∷ codes "fls" ∷ []
+-- Unknown key: a table has a key that its rows don't list.
+abbrev pub is_listed : List Row → List ℕ → Bool
+is_listed rows key = list_any (λ (row : Row). bytes_eq row.key key) rows
 
-abbrev pub needed_top_keys : List (List ℕ)
-needed_top_keys = codes "version" ∷ codes "width" ∷ codes "ram" ∷ codes "set" ∷ []
+unfoldable pub has_unlisted_key : Part → Members → Bool
+has_unlisted_key part t = list_any (λ key. not (is_listed (rows_of part) key)) (keys_of t)
 
-abbrev pub set_keys : List (List ℕ)
-set_keys = codes "algorithm" ∷ codes "march" ∷ codes "background" ∷ codes "atomic" ∷ codes "cells" ∷ codes "block" ∷ []
+-- Missing key: a table lacks a key that its rows don't let it leave out.
+abbrev pub is_missing : Members → Row → Bool
+is_missing t row = is_refused row.otherwise && not (has_key row.key t)
 
-abbrev pub needed_set_keys : List (List ℕ)
-needed_set_keys = codes "algorithm" ∷ codes "atomic" ∷ codes "cells" ∷ codes "block" ∷ []
-
-abbrev pub block_keys : List (List ℕ)
-block_keys = codes "first" ∷ codes "last" ∷ codes "policy" ∷ codes "fill" ∷ []
-
-abbrev pub needed_block_keys : List (List ℕ)
-needed_block_keys = codes "first" ∷ codes "last" ∷ codes "policy" ∷ []
-
-abbrev pub fls_keys : List (List ℕ)
-fls_keys = codes "atomic" ∷ codes "cells" ∷ codes "interval_end" ∷ codes "bgnd" ∷ codes "fgnd" ∷ []
-
-abbrev pub needed_fls_keys : List (List ℕ)
-needed_fls_keys = codes "atomic" ∷ codes "cells" ∷ codes "interval_end" ∷ []
-
-abbrev pub flash_block_keys : List (List ℕ)
-flash_block_keys = codes "first" ∷ codes "last" ∷ codes "copy" ∷ []
-
--- Unknown key: one of these tables has a key that is not listed for it.
-abbrev pub has_other_key : List (List ℕ) → Members → Bool
-has_other_key names t = list_any (λ key. not (is_one_of names key)) (keys_of t)
-
-unfoldable pub unknown_in_set : Members → Bool
-unknown_in_set s = has_other_key set_keys s || any_block (has_other_key block_keys) s
-
-unfoldable pub unknown_in_fls : Members → Bool
-unknown_in_fls f = has_other_key fls_keys f || any_flash_block (has_other_key flash_block_keys) f
-
-unfoldable pub unknown_key : Members → Bool
-unknown_key t = (has_other_key top_keys t || any_set unknown_in_set t) || in_fls unknown_in_fls t
-
--- Missing key: one of these tables lacks a key that it must have.
-abbrev pub lacks : List (List ℕ) → Members → Bool
-lacks names t = list_any (λ name. not (has_key name t)) names
-
-unfoldable pub missing_in_set : Members → Bool
-missing_in_set s = lacks needed_set_keys s || any_block (lacks needed_block_keys) s
-
-unfoldable pub missing_in_fls : Members → Bool
-missing_in_fls f = lacks needed_fls_keys f || any_flash_block (lacks flash_block_keys) f
-
-unfoldable pub missing_key : Members → Bool
-missing_key t = (lacks needed_top_keys t || any_set missing_in_set t) || in_fls missing_in_fls t
+unfoldable pub lacks_key : Part → Members → Bool
+lacks_key part t = list_any (is_missing t) (rows_of part)
 
 -- Wrong type: a listed key has another type, or a member of an array of tables is no table.
-abbrev pub other_type : (List ℕ → Members → Bool) → List ℕ → Members → Bool
-other_type has key t = has_key key t && not (has key t)
-
 abbrev pub has_tables : List ℕ → Members → Bool
 has_tables key t = has_array key t && list_all (λ d. is_some (as_table d)) (array_at key t)
 
--- some of these keys has another type
-abbrev pub any_other_type : (List ℕ → Members → Bool) → List (List ℕ) → Members → Bool
-any_other_type has names t = list_any (λ name. other_type has name t) names
+abbrev pub has_kind : Kind → List ℕ → Members → Bool
+has_kind Number key t = has_number key t
+has_kind Text key t = has_text key t
+has_kind Table key t = has_table key t
+has_kind Tables key t = has_tables key t
 
-unfoldable pub wrong_in_block : Members → Bool
-wrong_in_block b = any_other_type has_number (codes "first" ∷ codes "last" ∷ []) b || any_other_type has_text (codes "policy" ∷ codes "fill" ∷ []) b
+abbrev pub has_other_kind : Members → Row → Bool
+has_other_kind t row = has_key row.key t && not (has_kind row.kind row.key t)
 
-unfoldable pub wrong_in_set : Members → Bool
-wrong_in_set s =
-    ((any_other_type has_text (codes "algorithm" ∷ codes "march" ∷ codes "background" ∷ []) s || any_other_type has_number (codes "atomic" ∷ codes "cells" ∷ []) s)
-    || other_type has_tables (codes "block") s) || any_block wrong_in_block s
+unfoldable pub has_wrong_type : Part → Members → Bool
+has_wrong_type part t = list_any (has_other_kind t) (rows_of part)
 
-unfoldable pub wrong_in_flash_block : Members → Bool
-wrong_in_flash_block b = any_other_type has_number (codes "first" ∷ codes "last" ∷ codes "copy" ∷ []) b
+-- a rule on keys is broken in a table, and in some table of the document
+abbrev pub breaks : KeyRule → Part → Members → Bool
+breaks UnknownKey = has_unlisted_key
+breaks MissingKey = lacks_key
+breaks WrongType = has_wrong_type
 
-unfoldable pub wrong_in_fls : Members → Bool
-wrong_in_fls f =
-    ((any_other_type has_number (codes "atomic" ∷ codes "cells" ∷ codes "interval_end" ∷ []) f || other_type has_tables (codes "bgnd") f)
-    || other_type has_tables (codes "fgnd") f) || any_flash_block wrong_in_flash_block f
+unfoldable pub breaks_somewhere : KeyRule → Members → Bool
+breaks_somewhere rule t = any_part (breaks rule) t
 
-unfoldable pub wrong_in_top : Members → Bool
-wrong_in_top t =
-    ((any_other_type has_number (codes "version" ∷ codes "width" ∷ codes "ram" ∷ codes "flash" ∷ []) t || other_type has_text (codes "initial") t)
-    || other_type has_tables (codes "set") t) || other_type has_table (codes "fls") t
+-- ---- values
 
-unfoldable pub wrong_type : Members → Bool
-wrong_type t = (wrong_in_top t || any_set wrong_in_set t) || in_fls wrong_in_fls t
+-- Version: `version` is not 1 or 2.
+abbrev pub is_version : ℕ → Members → Bool
+is_version n t = int_eq (number_at (codes "version") t) (pos n)
 
--- Version: `version` is not 1.
 unfoldable pub wrong_version : Members → Bool
-wrong_version t = not (int_eq (number_at (codes "version") t) (pos 1))
+wrong_version t = not (is_version 1 t || is_version 2 t)
 
--- Width: `width` is not 8, 16 or 32.
+-- Width: `width` is not 8, 16 or 32, nor 64 in version 2.
 abbrev pub width_of : ℤ → Option Width
-width_of z = if int_eq z (pos 8) then Some W8 else (if int_eq z (pos 16) then Some W16 else (if int_eq z (pos 32) then Some W32 else None))
+width_of z =
+    if int_eq z (pos 8) then Some W8
+    else (if int_eq z (pos 16) then Some W16
+    else (if int_eq z (pos 32) then Some W32
+    else (if int_eq z (pos 64) then Some W64
+    else None)))
 
 abbrev pub width_at : Members → Width
 width_at t = unwrap_or (width_of (number_at (codes "width") t)) W8
 
 unfoldable pub wrong_width : Members → Bool
-wrong_width t = is_none (width_of (number_at (codes "width") t))
+wrong_width t = is_none (width_of (number_at (codes "width") t)) || (is_version 1 t && int_eq (number_at (codes "width") t) (pos 64))
 
 -- Size: `ram` is not 1 to 65,536, or `flash` is not 0 to 65,536.
 abbrev pub is_within : ℤ → ℤ → ℤ → Bool
@@ -161,17 +140,8 @@ unfoldable pub wrong_size : Members → Bool
 wrong_size t = not (is_within (pos 1) (pos 65536) (number_at (codes "ram") t)) || not (is_within (pos 0) (pos 65536) (number_at (codes "flash") t))
 
 -- Word: `initial`, a `background` or a `fill` is not exactly width / 4 hexadecimal digits, of either case.
-abbrev pub is_hex : ℕ → Bool
-is_hex b = ((nat_le 48 b && nat_le b 57) || (nat_le 97 b && nat_le b 102)) || (nat_le 65 b && nat_le b 70)
-
-abbrev pub digits_of : Width → ℕ
-digits_of width = width_bits width / 4
-
-unfoldable pub is_word : Width → List ℕ → Bool
-is_word width text = (length text == digits_of width) && list_all is_hex text
-
 abbrev pub no_word : Width → List ℕ → Members → Bool
-no_word width key t = has_key key t && not (is_word width (text_at key t))
+no_word width key t = has_key key t && is_none (word_of width (text_at key t))
 
 unfoldable pub wrong_word_in_set : Width → Members → Bool
 wrong_word_in_set width s = no_word width (codes "background") s || any_block (no_word width (codes "fill")) s
@@ -255,35 +225,28 @@ overlap_in_set s = any_meet (map span_of (array_at (codes "block") s))
 unfoldable pub overlap : Members → Bool
 overlap t = any_set overlap_in_set t
 
--- Cells: `atomic` is not 1 to 64, or `cells` is not from `atomic` to 65,536.
+-- Cells: `atomic` is not 1 to 64, or `cells` is not from `atomic` to 65,536, or `retries` is not 0 to 16, or is there in version 1.
 unfoldable pub wrong_cells : Members → Bool
 wrong_cells s =
     let atomic = number_at (codes "atomic") s in
     not (is_within (pos 1) (pos 64) atomic && is_within atomic (pos 65536) (number_at (codes "cells") s))
 
+unfoldable pub wrong_retries : Bool → Members → Bool
+wrong_retries first s = has_key (codes "retries") s && (first || not (is_within (pos 0) (pos 16) (number_at (codes "retries") s)))
+
+unfoldable pub wrong_cells_in_set : Bool → Members → Bool
+wrong_cells_in_set first s = wrong_cells s || wrong_retries first s
+
 unfoldable pub wrong_cells_range : Members → Bool
-wrong_cells_range t = any_set wrong_cells t
-
--- a number that fits 32 bits as it is
-abbrev pub small : ℤ → ℕ
-small (pos n) = if nat_lt n (2 ^ 32) then n else 0
-small (negsuc n) = 0
-
--- a block of flash words by its entries
-unfoldable pub flash_block_of : Members → FlashBlock
-flash_block_of b = record {
-  span = record { first = small (number_at (codes "first") b); last = small (number_at (codes "last") b) };
-  copy = small (number_at (codes "copy") b);
-}
+wrong_cells_range t = any_set (wrong_cells_in_set (is_version 1 t)) t
 
 -- the last address of its copy
-abbrev pub copy_end : FlashBlock → ℕ
-copy_end b = b.copy + (b.span.last - b.span.first)
+abbrev pub copy_last : Members → ℤ
+copy_last b = number_at (codes "copy") b +ℤ number_at (codes "last") b -ℤ number_at (codes "first") b
 
 -- Flash range, of a block: its first and last word are not in order within the flash, or its copy is not within it.
 unfoldable pub wrong_flash_block : ℤ → Members → Bool
-wrong_flash_block flash b =
-    not (in_order flash b) || not ((int_le (pos 0) (number_at (codes "copy") b) && int_lt (number_at (codes "copy") b) flash) && nat_lt (copy_end (flash_block_of b)) (small flash))
+wrong_flash_block flash b = not (in_order flash b && (int_le (pos 0) (number_at (codes "copy") b) && int_lt (copy_last b) flash))
 
 -- Flash range, of `fls`: as for the cells of a set, `interval_end` is not 0 to 65,535, or some block is wrong.
 unfoldable pub wrong_fls : ℤ → Members → Bool
@@ -293,14 +256,11 @@ unfoldable pub wrong_flash_range : Members → Bool
 wrong_flash_range t = in_fls (wrong_fls (number_at (codes "flash") t)) t
 
 -- Copy overlap: a flash block and its copy share a word.
-abbrev pub meets_copy : FlashBlock → Bool
-meets_copy b = nat_le b.span.first (copy_end b) && nat_le b.copy b.span.last
-
-unfoldable pub copy_overlap_of : Members → Bool
-copy_overlap_of b = meets_copy (flash_block_of b)
+unfoldable pub meets_copy : Members → Bool
+meets_copy b = meet (number_at (codes "first") b, number_at (codes "last") b) (number_at (codes "copy") b, copy_last b)
 
 unfoldable pub copy_overlap_in_fls : Members → Bool
-copy_overlap_in_fls f = any_flash_block copy_overlap_of f
+copy_overlap_in_fls f = any_flash_block meets_copy f
 
 unfoldable pub copy_overlap : Members → Bool
 copy_overlap t = in_fls copy_overlap_in_fls t

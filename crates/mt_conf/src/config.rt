@@ -8,9 +8,11 @@ use mt_march::MarchKind;
 use mt_port::Shape;
 use thiserror::Error;
 
-/// A configuration: the memory's shape, the word that each of its cells holds first, and what the two modules test.
+/// A configuration: the version of the text that says it, the memory's shape, the word that each of its cells holds first,
+/// and what the two modules test.
 #[derive(Drop)]
 pub struct Config {
+    pub version: u8,
     pub shape: Shape,
     pub initial: u64,
     pub ram_tst: RamConfig,
@@ -53,7 +55,7 @@ pub enum ConfigRefusal {
     BlockRange,
     #[error("blocks overlap")]
     Overlap,
-    #[error("the cells are out of range")]
+    #[error("the cells or the retries are out of range")]
     CellsRange,
     #[error("the flash configuration is out of range")]
     FlashRange,

@@ -7,13 +7,14 @@ mod laws;
 mod lookup;
 mod march;
 mod reading;
+mod schema;
 mod shape;
 mod value;
 mod values;
 mod writing;
 
 pub use config::{Config, ConfigRefusal};
-pub use laws::{accepted_is_taken, refusal_is_least};
+pub use laws::{accepted_is_taken, fields_are_entries, refusal_is_least};
 pub use reading::read_config;
 pub use writing::write_config;
 

@@ -107,6 +107,45 @@ last = 63
 policy = \"non-destructive\"
 ";
 
+const WIDE: &str = "version = 2
+width = 64
+ram = 10
+initial = \"FEDCBA9876543210\"
+[[set]]
+algorithm = \"galpat\"
+background = \"ffffffffffffffff\"
+atomic = 4
+cells = 8
+retries = 0
+[[set.block]]
+first = 0
+last = 9
+policy = \"destructive\"
+fill = \"0000000000000001\"
+";
+
+const RETRIES: &str = "version = 2
+width = 8
+ram = 10
+[[set]]
+algorithm = \"march\"
+atomic = 4
+cells = 8
+retries = 16
+[[set.block]]
+first = 0
+last = 9
+policy = \"non-destructive\"
+[[set]]
+algorithm = \"checkerboard\"
+atomic = 4
+cells = 8
+[[set.block]]
+first = 0
+last = 9
+policy = \"non-destructive\"
+";
+
 /// How a text is read; one that is too long is told as no memory.
 fn read(alloc: Global, text: &[u8]) -> Result<Config, ConfigRefusal>
     ensures { IfOk result IsAcceptedConfig }
@@ -148,7 +187,8 @@ fn same_algorithm(a: &Algorithm, b: &Algorithm) -> bool {
 
 fn same_set(a: &ParamSet, b: &ParamSet) -> bool {
     same_algorithm(&a.alg, &b.alg)
-        && (a.background, a.atomic, a.cells) == (b.background, b.atomic, b.cells)
+        && (a.background, a.atomic, a.cells, a.retries)
+            == (b.background, b.atomic, b.cells, b.retries)
         && a.blocks.as_slice() == b.blocks.as_slice()
 }
 
@@ -171,7 +211,8 @@ fn same_flash(a: &FlsConfig, b: &FlsConfig) -> bool {
 }
 
 fn same(a: &Config, b: &Config) -> bool {
-    a.shape == b.shape
+    a.version == b.version
+        && a.shape == b.shape
         && a.initial == b.initial
         && same_sets(a.ram_tst.sets.as_slice(), b.ram_tst.sets.as_slice())
         && same_flash(&a.fls_tst, &b.fls_tst)
@@ -192,6 +233,8 @@ fn text_of(row: u32) -> &'static str {
         0 => TWO_POLICIES,
         1 => CHECKERBOARD,
         2 => FLASH,
+        3 => WIDE,
+        4 => RETRIES,
         _ => REALISTIC,
     }
 }
@@ -209,7 +252,7 @@ fn is_read_back(alloc: Global, row: u32) -> bool {
 
 #[test]
 fn configurations_are_read_back(rt: HostRuntime) {
-    for row in 0..4 {
+    for row in 0..6 {
         assert!(rt; is_read_back(rt.alloc(), row), "{row}");
     }
 }

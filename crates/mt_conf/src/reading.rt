@@ -10,7 +10,7 @@ use crate::config::{Config, ConfigRefusal};
 use crate::flash::{has_copy_overlap, has_wrong_flash_range};
 use crate::laws::accepted_is_taken;
 use crate::march::refused_march;
-use crate::shape::{has_unknown_key, has_wrong_type, lacks_key};
+use crate::shape::{KeyRule, breaks_somewhere};
 use crate::value::config_of;
 use crate::values::{
     has_overlap, has_wrong_algorithm, has_wrong_block_range, has_wrong_cells_range,
@@ -23,13 +23,13 @@ use toml::Table;
 fn broken_before_march(table: &Table) -> Option<ConfigRefusal>
     ensures { result ≡ first_of (rules_before_march (table_view table.now)) }
 {
-    if has_unknown_key(table) {
+    if breaks_somewhere(KeyRule::UnknownKey, table) {
         return Some(ConfigRefusal::UnknownKey);
     }
-    if lacks_key(table) {
+    if breaks_somewhere(KeyRule::MissingKey, table) {
         return Some(ConfigRefusal::MissingKey);
     }
-    if has_wrong_type(table) {
+    if breaks_somewhere(KeyRule::WrongType, table) {
         return Some(ConfigRefusal::WrongType);
     }
     if has_wrong_version(table) {

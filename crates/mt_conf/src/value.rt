@@ -1,20 +1,20 @@
 //! The configuration that a table without a broken rule is.
 
 ghost use Rattle.std.specs.Prelude.{◌≡◌, ◌≤◌, ◌<◌, ℕ, true, codes, length, map, if◌then◌else◌, IfOk};
-ghost use Rattle.std.specs.List.{list_all};
 ghost use Rattle.toml.specs.View.{view, table_view};
-ghost use Rattle.mt_conf.specs.Lookup.{array_at, text_at, fields};
+ghost use Rattle.mt_conf.specs.Lookup.{array_at, number_at, text_at, fields};
 ghost use Rattle.mt_plan.specs.declared.algorithm.Algorithm.TheVariants.{March as Marches};
 ghost use Rattle.mt_plan.specs.declared.algorithm.Policy.TheVariants.{NonDestructive, Destructive};
-ghost use Rattle.mt_conf.specs.Rules.{is_hex, is_named, flash_block_of};
-ghost use Rattle.mt_conf.specs.Outcome.{hex_digit, hex, word_of, block_of, march_with, march_at, algorithm_at, set_of, fls_of, no_fls, fls_at, shape_of, config_of};
+ghost use Rattle.mt_conf.specs.Rules.{is_named};
+ghost use Rattle.mt_conf.specs.Outcome.{small, number_in, flash_block_of, word_or_zero, block_of, march_with, march_at, algorithm_at, set_of, fls_of, no_fls, fls_at, shape_of, version_at, config_of};
 
 use crate::config::Config;
-use crate::flash::{flash_block_in, small_at};
-use crate::lookup::{array_at, at, has_key, text_at};
+use crate::lookup::{array_at, at, has_key, number_at, text_at};
 use crate::march::march_of;
-use crate::values::{is_named, is_word, width_at};
+use crate::schema::{Part, default_number, otherwise_of};
+use crate::values::{is_named, is_version, width_at};
 use mt_blocks::{Block, FlashBlock, FlsConfig, List, ParamSet, RamConfig, Span};
+use mt_hex::word_of;
 use mt_march::{March, march_c_minus};
 use mt_plan::{Algorithm, Policy};
 use mt_port::Shape;
@@ -22,46 +22,39 @@ use mt_word::Width;
 use std::alloc::{AllocError, Global};
 use toml::{Table, Value};
 
-/// How often urgent requests may break the test of a slice off in one event.
-const RETRIES: u32 = 2;
-
-fn hex_digit(byte: u8) -> u64
-    requires { is_hex byte ≡ true }
-    ensures value { result ≡ hex_digit byte }
-    ensures small { result < 16 }
+fn small(number: i64) -> u32
+    ensures { result ≡ small number }
 {
-    match byte {
-        b'0'..=b'9' => u64::from(byte - b'0'),
-        b'a'..=b'f' => u64::from(byte - b'a') + 10,
-        _ => u64::from(byte - b'A') + 10,
+    if 0 <= number && number < 4_294_967_296 {
+        number as u32
+    } else {
+        0
     }
 }
 
-/// The value of at most sixteen hexadecimal digits.
-fn hex(bytes: &[u8]) -> u64
-    requires digits { list_all is_hex bytes.now ≡ true }
-    requires few { length bytes.now ≤ 16 }
-    ensures { result ≡ hex 0 bytes.now }
+/// The number at a key, which is told where it fits.
+fn small_at(table: &Table, key: &str) -> u32
+    ensures { result ≡ small (number_at key.now (table_view table.now)) }
 {
-    let mut word = 0u64;
-    for byte in bytes {
-        word = 16 * word + hex_digit(*byte);
-    }
-    word
+    small(number_at(table, key))
 }
 
-#[tactic(auto, unfolding(crate::specs::Outcome::word_of))]
-fn word_of(width: Width, text: &[u8]) -> u64
-    ensures { result ≡ word_of width text.now }
+/// The number at a key, and the default of its row where the table leaves it out.
+fn number_in(part: Part, table: &Table, key: &str) -> u32
+    ensures { result ≡ number_in part key.now (table_view table.now) }
 {
-    if is_word(width, text) { hex(text) } else { 0 }
+    if has_key(table, key) {
+        small_at(table, key)
+    } else {
+        default_number(otherwise_of(part, key))
+    }
 }
 
 /// The word at a key, and all bits 0 where there is none.
 fn word_at(width: Width, table: &Table, key: &str) -> u64
-    ensures { result ≡ word_of width (text_at key.now (table_view table.now)) }
+    ensures { result ≡ word_or_zero width (text_at key.now (table_view table.now)) }
 {
-    word_of(width, text_at(table, key).as_bytes())
+    word_of(width, text_at(table, key).as_bytes()).unwrap_or(0)
 }
 
 #[tactic(auto, unfolding(crate::specs::Outcome::block_of))]
@@ -162,7 +155,7 @@ fn set_in(alloc: Global, width: Width, table: &Table) -> Result<ParamSet, AllocE
         atomic: small_at(table, "atomic"),
         cells: small_at(table, "cells"),
         blocks: List::new(blocks),
-        retries: RETRIES,
+        retries: number_in(Part::Set, table, "retries"),
     })
 }
 
@@ -189,6 +182,20 @@ fn sets_in(alloc: Global, width: Width, table: &Table) -> Result<Vec<ParamSet>, 
     ensures { IfOk result (λ v. v.items ≡ map (λ d. set_of width (fields d)) (array_at (codes "set") (table_view table.now))) }
 {
     sets_of(alloc, width, array_at(table, "set"))
+}
+
+/// A block of flash words by its entries.
+#[tactic(auto, unfolding(crate::specs::Outcome::flash_block_of))]
+fn flash_block_in(table: &Table) -> FlashBlock
+    ensures { result ≡ flash_block_of (table_view table.now) }
+{
+    FlashBlock {
+        span: Span {
+            first: small_at(table, "first"),
+            last: small_at(table, "last"),
+        },
+        copy: small_at(table, "copy"),
+    }
 }
 
 fn flash_block_of(alloc: Global, value: &Value) -> FlashBlock
@@ -270,8 +277,14 @@ fn shape_of(table: &Table) -> Shape
     Shape {
         width: width_at(table),
         ram: small_at(table, "ram"),
-        flash: small_at(table, "flash"),
+        flash: number_in(Part::Top, table, "flash"),
     }
+}
+
+fn version_at(table: &Table) -> u8
+    ensures { result ≡ version_at (table_view table.now) }
+{
+    if is_version(table, 1) { 1 } else { 2 }
 }
 
 /// The configuration of a table that breaks no rule. Of another table it may be none.
@@ -283,6 +296,7 @@ pub fn config_of(alloc: Global, table: &Table) -> Result<Config, AllocError>
     let sets = sets_in(alloc, width, table)?;
     let fls_tst = fls_at(alloc, table)?;
     Ok(Config {
+        version: version_at(table),
         shape: shape_of(table),
         initial: word_at(width, table, "initial"),
         ram_tst: RamConfig {

@@ -1,22 +1,29 @@
 //! Rules on the values of the top table and of sets, but for a march.
 
 ghost use Rattle.std.specs.Prelude.{◌≡◌, ◌≤◌, ◌||◌, ℕ, ℤ, codes, map, not, pos, length};
-ghost use Rattle.std.specs.List.{list_any, list_all};
+ghost use Rattle.std.specs.List.{list_any};
 ghost use Rattle.std.specs.Str.{bytes_eq};
 ghost use Rattle.toml.specs.View.{view, table_view};
 ghost use Rattle.mt_conf.specs.Lookup.{array_at};
-ghost use Rattle.mt_conf.specs.Rules.{wrong_version, width_of, width_at, wrong_width, is_within, wrong_size, is_hex, digits_of, is_word, no_word, wrong_word_in_set, wrong_word, is_count, wrong_count_in_set, wrong_count_in_fls, wrong_count, is_named, wrong_policy, idle_march, wrong_algorithm_in_set, wrong_algorithm, is_destructive, transparent_destructive_in_set, transparent_destructive, any_block, any_set, in_order, wrong_range, wrong_block_range, span_of, meet, any_meet, overlap_in_set, overlap, wrong_cells, wrong_cells_range};
+ghost use Rattle.mt_conf.specs.Rules.{texts, is_one_of, is_version, wrong_version, width_of, width_at, wrong_width, is_within, wrong_size, no_word, wrong_word_in_set, wrong_word, is_count, wrong_count_in_set, wrong_count_in_fls, wrong_count, is_named, wrong_policy, idle_march, wrong_algorithm_in_set, wrong_algorithm, is_destructive, transparent_destructive_in_set, transparent_destructive, any_block, any_set, in_order, wrong_range, wrong_block_range, span_of, meet, any_meet, overlap_in_set, overlap, wrong_cells, wrong_retries, wrong_cells_in_set, wrong_cells_range};
 
 use crate::lookup::{array_at, count_at, has_key, number_at, text_at};
-use crate::shape::{any_table, in_fls, is_one_of};
-use mt_word::{Width, bits};
+use crate::shape::{any_table, in_fls};
+use mt_hex::word_of;
+use mt_word::Width;
 use toml::{Table, Value};
+
+pub fn is_version(table: &Table, version: u8) -> bool
+    ensures { result ≡ is_version version (table_view table.now) }
+{
+    number_at(table, "version") == i64::from(version)
+}
 
 #[tactic(auto, unfolding(crate::specs::Rules::wrong_version))]
 pub fn has_wrong_version(table: &Table) -> bool
     ensures { result ≡ wrong_version (table_view table.now) }
 {
-    number_at(table, "version") != 1
+    !is_version(table, 1) && !is_version(table, 2)
 }
 
 fn width_of(number: i64) -> Option<Width>
@@ -26,6 +33,7 @@ fn width_of(number: i64) -> Option<Width>
         8 => Some(Width::W8),
         16 => Some(Width::W16),
         32 => Some(Width::W32),
+        64 => Some(Width::W64),
         _ => None,
     }
 }
@@ -41,7 +49,8 @@ pub fn width_at(table: &Table) -> Width
 pub fn has_wrong_width(table: &Table) -> bool
     ensures { result ≡ wrong_width (table_view table.now) }
 {
-    width_of(number_at(table, "width")).is_none()
+    let width = number_at(table, "width");
+    width_of(width).is_none() || (is_version(table, 1) && width == 64)
 }
 
 /// Whether a number is one from `low` to `high`.
@@ -59,39 +68,10 @@ pub fn has_wrong_size(table: &Table) -> bool
         || !is_within(0, 65_536, number_at(table, "flash"))
 }
 
-fn is_hex(byte: u8) -> bool
-    ensures { result ≡ is_hex byte }
-{
-    (b'0' <= byte && byte <= b'9')
-        || (b'a' <= byte && byte <= b'f')
-        || (b'A' <= byte && byte <= b'F')
-}
-
-fn are_hex(bytes: &[u8]) -> bool
-    ensures { result ≡ list_all is_hex bytes.now }
-{
-    bytes.iter().all(|byte| is_hex(*byte))
-}
-
-fn digits_of(width: Width) -> usize
-    ensures value { result ≡ digits_of width }
-    ensures few { result ≤ 16 }
-{
-    bits(width) as usize / 4
-}
-
-/// Whether a text is exactly as many hexadecimal digits as the width asks for.
-#[tactic(auto, unfolding(crate::specs::Rules::is_word))]
-pub fn is_word(width: Width, text: &[u8]) -> bool
-    ensures { result ≡ is_word width text.now }
-{
-    text.len() == digits_of(width) && are_hex(text)
-}
-
 fn is_no_word(width: Width, key: &str, table: &Table) -> bool
     ensures { result ≡ no_word width key.now (table_view table.now) }
 {
-    has_key(table, key) && !is_word(width, text_at(table, key).as_bytes())
+    has_key(table, key) && word_of(width, text_at(table, key).as_bytes()).is_none()
 }
 
 #[tactic(auto, unfolding(crate::specs::Rules::wrong_word_in_set))]
@@ -142,6 +122,16 @@ pub fn has_wrong_count(table: &Table) -> bool
     ensures { result ≡ wrong_count (table_view table.now) }
 {
     ram_part_has_wrong_count(table) || in_fls(table, &fls_has_wrong_count)
+}
+
+/// Whether a name is one of these.
+fn is_one_of(names: &[&str], key: &str) -> bool
+    ensures { result ≡ is_one_of (texts names.now) key.now }
+{
+    match names {
+        [] => false,
+        [name, rest @ ..] => *name == key || is_one_of(rest, key),
+    }
 }
 
 /// Whether the text at a key is this name.
@@ -300,9 +290,25 @@ pub fn has_wrong_cells(table: &Table) -> bool
     !(is_within(1, 64, atomic) && is_within(atomic, 65_536, number_at(table, "cells")))
 }
 
+/// Whether `retries` is out of range, or is there in the first version.
+#[tactic(auto, unfolding(crate::specs::Rules::wrong_retries))]
+fn has_wrong_retries(first: bool, table: &Table) -> bool
+    ensures { result ≡ wrong_retries first (table_view table.now) }
+{
+    has_key(table, "retries") && (first || !is_within(0, 16, number_at(table, "retries")))
+}
+
+#[tactic(auto, unfolding(crate::specs::Rules::wrong_cells_in_set))]
+fn set_has_wrong_cells(first: bool, table: &Table) -> bool
+    ensures { result ≡ wrong_cells_in_set first (table_view table.now) }
+{
+    has_wrong_cells(table) || has_wrong_retries(first, table)
+}
+
 #[tactic(auto, unfolding(crate::specs::Rules::wrong_cells_range))]
 pub fn has_wrong_cells_range(table: &Table) -> bool
     ensures { result ≡ wrong_cells_range (table_view table.now) }
 {
-    any_table(table, "set", &has_wrong_cells)
+    let first = is_version(table, 1);
+    any_table(table, "set", &|set| set_has_wrong_cells(first, set))
 }

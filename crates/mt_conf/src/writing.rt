@@ -5,18 +5,18 @@ ghost use Rattle.std.specs.Io.KnownBytes.{Appends};
 ghost use Rattle.mt_port.specs.Causes.{HasCause};
 ghost use Rattle.mt_port.specs.Streams.{AppendsFront};
 ghost use Rattle.mt_plan.specs.Plan.{IsAccepted};
-ghost use Rattle.mt_text.specs.Digits.{word_text};
+ghost use Rattle.mt_hex.specs.Digits.{word_text};
 ghost use Rattle.mt_blocks.specs.Accepted.{IsAcceptedSet};
 ghost use Rattle.mt_conf.specs.Accepted.{IsAcceptedConfig};
-ghost use Rattle.mt_conf.specs.Canonical.{number_entry, text_entry, header, policy_name, algorithm_entries, block_text, blocks_text, set_text, sets_text, flash_block_text, flash_blocks_text, fls_text, top_text, config_text};
+ghost use Rattle.mt_conf.specs.Canonical.{number_entry, text_entry, header, policy_name, algorithm_entries, block_text, blocks_text, retries_entry, set_text, sets_text, flash_block_text, flash_blocks_text, fls_text, top_text, config_text};
 
 use crate::config::Config;
 use arrayvec::ArrayVec;
 use mt_blocks::{Block, FlashBlock, FlsConfig, ParamSet};
+use mt_hex::{push_bytes, push_number, push_word};
 use mt_march::march_text;
 use mt_plan::{Algorithm, Policy};
 use mt_port::{Failed, Shape, Sink, put};
-use mt_text::{push_bytes, push_number, push_word};
 use mt_word::{Width, bits};
 
 /// A part of the text. The longest one is that of FlsTst: 72 bytes, and 69 for each of at most 128 blocks.
@@ -116,10 +116,20 @@ fn push_blocks(out: &mut Part, width: Width, blocks: &[Block])
     }
 }
 
+fn push_retries(out: &mut Part, version: u8, retries: u32)
+    requires { length out.old.items + 21 ≤ 8904 }
+    ensures text { out.new.items ≡ out.old.items ++ retries_entry version retries }
+    ensures short { length out.new.items ≤ length out.old.items + 21 }
+{
+    if version == 2 {
+        push_number_entry(out, b"retries", retries);
+    }
+}
+
 #[tactic(auto, unfolding(crate::specs::Canonical::set_text))]
-fn set_text(shape: Shape, set: &ParamSet) -> Part
+fn set_text(version: u8, shape: Shape, set: &ParamSet) -> Part
     requires { IsAcceptedSet shape set.now }
-    ensures { result.items ≡ set_text shape.width set.now }
+    ensures { result.items ≡ set_text version shape.width set.now }
 {
     let mut out = ArrayVec::new();
     push_header(&mut out, b"[[set]]");
@@ -127,6 +137,7 @@ fn set_text(shape: Shape, set: &ParamSet) -> Part
     push_word_entry(&mut out, b"background", shape.width, set.background);
     push_number_entry(&mut out, b"atomic", set.atomic);
     push_number_entry(&mut out, b"cells", set.cells);
+    push_retries(&mut out, version, set.retries);
     push_blocks(&mut out, shape.width, set.blocks.as_slice());
     out
 }
@@ -175,7 +186,7 @@ fn top_text(config: &Config) -> Part
     ensures { result.items ≡ top_text config.now }
 {
     let mut out = ArrayVec::new();
-    push_number_entry(&mut out, b"version", 1);
+    push_number_entry(&mut out, b"version", u32::from(config.version));
     push_number_entry(&mut out, b"width", bits(config.shape.width));
     push_number_entry(&mut out, b"ram", config.shape.ram);
     push_number_entry(&mut out, b"flash", config.shape.flash);
@@ -183,24 +194,28 @@ fn top_text(config: &Config) -> Part
     out
 }
 
-fn write_sets<K: Sink>(shape: Shape, sets: &[ParamSet], sink: &mut K) -> Result<(), Failed>
+fn write_sets<K: Sink>(
+    version: u8,
+    shape: Shape,
+    sets: &[ParamSet],
+    sink: &mut K,
+) -> Result<(), Failed>
     requires { All (IsAcceptedSet shape) sets.now }
-    ensures ok { OnOk result (Appends (K.held sink.old) (K.held sink.new) (sets_text shape.width sets.now)) }
-    ensures err { OnErr result (AppendsFront (K.held sink.old) (K.held sink.new) (sets_text shape.width sets.now)) }
+    ensures ok { OnOk result (Appends (K.held sink.old) (K.held sink.new) (sets_text version shape.width sets.now)) }
+    ensures err { OnErr result (AppendsFront (K.held sink.old) (K.held sink.new) (sets_text version shape.width sets.now)) }
     ensures cause { HasCause (K.faults sink.old) (K.faults sink.new) result }
 {
     for set in sets {
-        put(sink, &set_text(shape, set))?;
+        put(sink, &set_text(version, shape, set))?;
     }
     Ok(())
 }
 
 /// Writes the canonical text of a configuration: the top table, each set and then its blocks, and the table of FlsTst
-/// and then its blocks. Each key is written, in one order, also where it has its default; `march` is written for the
-/// algorithm `march` alone. A table other than the first begins with an empty line.
+/// and then its blocks. Each key that the version has is written, in one order, also where it has its default; `march` is
+/// written for the algorithm `march` alone. A table other than the first begins with an empty line.
 ///
-/// It takes no memory. The top table, each set with its blocks, and FlsTst with its blocks are written by one call of
-/// `put` each.
+/// It takes no memory.
 #[tactic(auto, unfolding(crate::specs::Canonical::config_text))]
 pub fn write_config<K: Sink>(config: &Config, sink: &mut K) -> Result<(), Failed>
     requires { IsAcceptedConfig config.now }
@@ -209,6 +224,7 @@ pub fn write_config<K: Sink>(config: &Config, sink: &mut K) -> Result<(), Failed
     ensures cause { HasCause (K.faults sink.old) (K.faults sink.new) result }
 {
     put(sink, &top_text(config))?;
-    write_sets(config.shape, config.ram_tst.sets.as_slice(), sink)?;
+    let sets = config.ram_tst.sets.as_slice();
+    write_sets(config.version, config.shape, sets, sink)?;
     put(sink, &fls_text(&config.fls_tst))
 }

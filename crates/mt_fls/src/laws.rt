@@ -1,8 +1,8 @@
 //! Laws of FlsTst.
 
-ghost use Rattle.mt_window.specs.Waits.{ServesInTime};
+ghost use Rattle.mt_window.specs.Waits.{ServesInTime, KeepsBoard};
 ghost use Rattle.mt_fls.specs.Event.{ticking};
-ghost use Rattle.mt_fls.specs.Laws.{ForegroundTestsServeInTime, TicksRest, TicksEndTheirGroup, BoundariesMove, RequestsLeftMove, ServicesLeaveSetting};
+ghost use Rattle.mt_fls.specs.Laws.{ForegroundTestsServeInTime, ForegroundTestsKeepTheBoard, TicksRest, TicksEndTheirGroup, BoundariesMove, RequestsLeftMove, ServicesLeaveSetting};
 
 use crate::block_walk::BlockWalk;
 use crate::pass_walk::PassWalk;
@@ -19,6 +19,15 @@ pub fn waits_of_running_calls()
     waits_are_short::<Fls, PassWalk>();
     requests_are_served::<Fls, BlockWalk>();
     waits_are_short::<Fls, BlockWalk>();
+}
+
+/// Running calls leave the board's shape, fault, flash words and defect, and whether interrupts are held.
+pub fn running_calls_keep_the_board()
+    ensures tick { KeepsBoard ticking }
+    ensures foreground { ForegroundTestsKeepTheBoard }
+{
+    requests_are_served::<Fls, PassWalk>();
+    requests_are_served::<Fls, BlockWalk>();
 }
 
 /// When a tick compares nothing, and when it ends its group early.

@@ -6,3 +6,4 @@ pub mod Standing
 pub mod SteadyPlans
 pub mod KeptCells
 pub mod Lines
+pub mod Spans

@@ -1,5 +1,6 @@
 -- What a cursor over the steps of an algorithm stands at.
-use Rattle.std.specs.Prelude.{◌≡◌, ℕ, zero, suc, ◌+◌, ◌<◌, ◌≤◌, length, Bool, true, false, if◌then◌else◌, List, map, Option, Some, None, slice_get}
+use Rattle.std.specs.Prelude.{◌≡◌, ℕ, zero, suc, ◌+◌, ◌*◌, ◌<◌, ◌≤◌, length, Bool, true, false, ◌==◌, ◌&&◌, if◌then◌else◌, List, map, Option, Some, None, slice_get}
+use Rattle.std.specs.List.{flat_map}
 use Rattle.mt_fault.specs.Faulty.{is_odd}
 use Rattle.mt_march.specs.declared.march.Element.{Element}
 use Rattle.mt_plan.specs.declared.algorithm.Act.TheVariants.{ReadPlain}
@@ -94,3 +95,57 @@ cells_of steps = steps.n
 -- how many steps a cursor has handed out
 abbrev pub made_by : Steps → ℕ
 made_by steps = steps.made
+
+-- the line under way, and the element of a march that it is of
+abbrev pub line_under : Steps → Line
+line_under steps = steps.line
+
+abbrev pub element_under : Steps → Element
+element_under steps = steps.element
+
+-- The steps that are made at once from the begin of a line on: those of the line, and of an element those on all cells.
+abbrev pub span_steps : Element → ℕ → Line → List Step
+span_steps element n (EachCell even odd) = line_steps element n (EachCell even odd)
+span_steps element n (OnCell cell) = flat_map (λ place. ops_on element.ops.items (cell_at element.order n place)) (cells n)
+span_steps element n (WalkBase flipped base) = walk_base flipped (cells n) base
+span_steps element n (GalpatBase flipped base) = galpat_base flipped (cells n) base
+
+abbrev pub span_of : Steps → List Step
+span_of steps = span_steps steps.element steps.n steps.line
+
+-- whether a line is one of an element's
+abbrev pub is_on_cell : Line → Bool
+is_on_cell (EachCell even odd) = false
+is_on_cell (OnCell cell) = true
+is_on_cell (WalkBase flipped base) = false
+is_on_cell (GalpatBase flipped base) = false
+
+-- how many such steps there are
+abbrev pub span_count : Element → ℕ → Line → ℕ
+span_count element n (EachCell even odd) = n
+span_count element n (OnCell cell) = n * length element.ops.items
+span_count element n (WalkBase flipped base) = n + 2
+span_count element n (GalpatBase flipped base) = 2 * n + 1
+
+abbrev pub SpansAreCounted : Type 0
+SpansAreCounted = (element : Element) (n : ℕ) (line : Line) → IsLineOn n line → length (span_steps element n line) ≡ span_count element n line
+
+abbrev pub IsMarch : Algorithm → Type 0
+IsMarch Checkerboard = ⊥
+IsMarch (Marches march) = Unit {0}
+IsMarch WalkPath = ⊥
+IsMarch Galpat = ⊥
+IsMarch TransparentGalpat = ⊥
+
+-- whether such steps begin at a row and a place of it
+abbrev pub is_span_place : Bool → ℕ → ℕ → Bool
+is_span_place true row at = (row == 0) && (at == 0)
+is_span_place false row at = at == 0
+
+-- whether a cursor stands where such steps begin
+abbrev pub begins_span : Steps → Bool
+begins_span steps = is_span_place (is_on_cell steps.line) steps.place.row steps.place.at
+
+-- The steps of the list are these from an index on.
+abbrev pub Continues : List Step → ℕ → List Step → Type 0
+Continues steps from span = (k : ℕ) (t : Step) → slice_get span k ≡ Some t → slice_get steps (from + k) ≡ Some t

@@ -41,10 +41,36 @@ pub enum Policy {
 /// What a step does with its cell. Plain is the cell's background word, and Flipped its complement.
 #[derive(Clone, Copy, Debug, PartialEq, Eq)]
 pub enum Act {
-    WritePlain,
-    WriteFlipped,
     ReadPlain,
     ReadFlipped,
+    WritePlain,
+    WriteFlipped,
+}
+
+impl Act {
+    ghost use Rattle.mt_plan.specs.Lists.{is_flipped, is_write};
+
+    /// Whether the act writes.
+    #[inline(always)]
+    pub fn is_write(self) -> bool
+        ensures { result ≡ is_write self }
+    {
+        match self {
+            Act::WritePlain | Act::WriteFlipped => true,
+            Act::ReadPlain | Act::ReadFlipped => false,
+        }
+    }
+
+    /// Whether the act writes or expects the complement.
+    #[inline(always)]
+    pub fn is_flipped(self) -> bool
+        ensures { result ≡ is_flipped self }
+    {
+        match self {
+            Act::ReadFlipped | Act::WriteFlipped => true,
+            Act::ReadPlain | Act::WritePlain => false,
+        }
+    }
 }
 
 /// One access of an algorithm. Cells of a slice are counted from 0.

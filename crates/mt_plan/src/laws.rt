@@ -1,11 +1,17 @@
 //! Laws of the lists.
 
 ghost use Rattle.mt_plan.specs.Steady.{PlansAreSteady, PlansAreCounted};
+ghost use Rattle.mt_plan.specs.Cursor.{SpansAreCounted};
 ghost use Rattle.mt_plan.specs.Kept.{MarchOnKeptCells, KeptCells};
 
 /// The list of an algorithm is as long as its closed form says.
 pub fn lengths()
     ensures { PlansAreCounted }
+{}
+
+/// How many steps loops make at once.
+pub fn spans_are_counted()
+    ensures { SpansAreCounted }
 {}
 
 /// Each read of a plan expects what the last write to its cell wrote, and no step leaves the cells.

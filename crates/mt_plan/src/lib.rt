@@ -15,7 +15,10 @@ pub use algorithm::{Act, Algorithm, Policy, Step};
 pub use counting::{hold_of, steps};
 pub use cursor::Steps;
 pub use indexing::step_at;
-pub use laws::{kept_cells, lengths, march_on_kept_cells, plans_are_steady};
+pub use laws::{kept_cells, lengths, march_on_kept_cells, plans_are_steady, spans_are_counted};
+pub use line::{Line, act_of};
+pub use rounds::{reading, writing};
+pub use rows::cell_of;
 
 #[cfg(test)]
 mod tests;

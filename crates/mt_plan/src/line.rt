@@ -2,7 +2,7 @@
 
 ghost use Rattle.std.specs.Prelude.{◌≡◌, ◌≤◌, ◌<◌, length, slice_get, Some};
 ghost use Rattle.mt_plan.specs.Lists.{act_of};
-ghost use Rattle.mt_plan.specs.Cursor.{line_steps, IsLineOn};
+ghost use Rattle.mt_plan.specs.Cursor.{is_on_cell, line_steps, IsLineOn};
 
 use crate::algorithm::{Act, Step};
 use crate::rounds::{galpat_base_step, walk_base_step};
@@ -21,8 +21,9 @@ pub enum Line {
     GalpatBase { flipped: bool, base: u32 },
 }
 
+/// What an operation does: 0 is the background word, and 1 its complement.
 #[inline(always)]
-fn act_of(op: Op) -> Act
+pub fn act_of(op: Op) -> Act
     ensures { result ≡ act_of op }
 {
     match op {
@@ -34,6 +35,17 @@ fn act_of(op: Op) -> Act
 }
 
 impl Line {
+    /// Whether the line is one of an element's.
+    #[inline(always)]
+    pub(crate) fn is_on_cell(self) -> bool
+        ensures { result ≡ is_on_cell self }
+    {
+        match self {
+            Line::OnCell { .. } => true,
+            Line::EachCell { .. } | Line::WalkBase { .. } | Line::GalpatBase { .. } => false,
+        }
+    }
+
     /// How many steps the line has.
     pub fn len(self, element: &Element, n: u32) -> u32
         requires small { n ≤ 64 }

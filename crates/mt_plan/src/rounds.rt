@@ -5,6 +5,7 @@ ghost use Rattle.mt_plan.specs.Lists.{cells, read_act, write_act, walk_base, gal
 
 use crate::algorithm::{Act, Step};
 
+/// A write of the background word, or of its complement.
 #[inline(always)]
 pub fn writing(flipped: bool) -> Act
     ensures { result ≡ write_act flipped }
@@ -16,6 +17,7 @@ pub fn writing(flipped: bool) -> Act
     }
 }
 
+/// A read that expects the background word, or its complement.
 #[inline(always)]
 pub fn reading(flipped: bool) -> Act
     ensures { result ≡ read_act flipped }

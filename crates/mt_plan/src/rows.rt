@@ -143,3 +143,29 @@ pub fn element_at(algorithm: &Algorithm, part: u32) -> Element
         },
     }
 }
+
+/// Makes one element equal to another, where it stands.
+fn copy_into(element: &mut Element, from: &Element)
+    ensures { element.new ≡ from.now }
+{
+    element.order = from.order;
+    element.ops.clear();
+    for op in from.ops.as_slice() {
+        element.ops.push(*op);
+    }
+}
+
+/// Makes an element that of a part of a march; for the other algorithms it stays.
+pub fn load_element(element: &mut Element, algorithm: &Algorithm, part: u32)
+    requires accepted { IsAccepted algorithm.now }
+    requires part { part < part_count algorithm.now }
+    ensures { IsElementOf algorithm.now part element.new }
+{
+    match algorithm {
+        Algorithm::March(march) => copy_into(element, &march.elements.as_slice()[part as usize]),
+        Algorithm::Checkerboard
+        | Algorithm::WalkPath
+        | Algorithm::Galpat
+        | Algorithm::TransparentGalpat => {}
+    }
+}

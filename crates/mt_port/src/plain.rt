@@ -97,13 +97,13 @@ impl Port for PlainBoard {
 
     fn read(&mut self, addr: u32) -> u64 {
         self.count += 1;
-        self.tape.add(Touch::Read { addr });
+        self.tape.add_read(addr);
         self.words[addr as usize]
     }
 
     fn write(&mut self, addr: u32, word: u64) {
         self.count += 1;
-        self.tape.add(Touch::Write { addr, word });
+        self.tape.add_write(addr, word);
         self.words[addr as usize] = word;
     }
 

@@ -1,6 +1,6 @@
 //! The tape of a board.
 
-ghost use Rattle.std.specs.Prelude.{◌≡◌, Some, []};
+ghost use Rattle.std.specs.Prelude.{◌≡◌, Some, [], is_some, true};
 ghost use Rattle.std.specs.Option.{option_copied};
 ghost use Rattle.mt_port.specs.Tape.{recorded};
 
@@ -39,12 +39,61 @@ impl Tape {
     }
 
     /// Appends an access. A list of 256 becomes none, and none stays none.
+    #[inline(always)]
     pub fn add(&mut self, touch: Touch)
         ensures { self.new ≡ recorded 256 self.old touch }
     {
-        if !self.told {
-            return;
+        if self.told {
+            self.append(touch);
         }
+    }
+
+    /// Appends a read.
+    #[inline(always)]
+    pub fn add_read(&mut self, addr: u32)
+        ensures { self.new ≡ recorded 256 self.old (Touch.Read addr) }
+    {
+        if self.told {
+            self.append_read(addr);
+        }
+    }
+
+    /// Appends a write.
+    #[inline(always)]
+    pub fn add_write(&mut self, addr: u32, word: u64)
+        ensures { self.new ≡ recorded 256 self.old (Touch.Write addr word) }
+    {
+        if self.told {
+            self.append_write(addr, word);
+        }
+    }
+
+    // The calls below stand apart, so that an access costs one test where the tape tells no more.
+
+    #[cold]
+    #[inline(never)]
+    fn append_read(&mut self, addr: u32)
+        requires { is_some self.old ≡ true }
+        ensures { self.new ≡ recorded 256 self.old (Touch.Read addr) }
+    {
+        self.append(Touch::Read { addr });
+    }
+
+    #[cold]
+    #[inline(never)]
+    fn append_write(&mut self, addr: u32, word: u64)
+        requires { is_some self.old ≡ true }
+        ensures { self.new ≡ recorded 256 self.old (Touch.Write addr word) }
+    {
+        self.append(Touch::Write { addr, word });
+    }
+
+    #[cold]
+    #[inline(never)]
+    fn append(&mut self, touch: Touch)
+        requires { is_some self.old ≡ true }
+        ensures { self.new ≡ recorded 256 self.old touch }
+    {
         if self.touches.is_full() {
             self.told = false;
         } else {

@@ -4,3 +4,4 @@ pub mod Settings
 pub mod Walks
 pub mod Drops
 pub mod Marks
+pub mod Plain

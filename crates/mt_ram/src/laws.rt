@@ -1,8 +1,9 @@
 //! Laws of RamTst.
 
 ghost use Rattle.mt_ram.specs.Event.{ticking, full_test};
-ghost use Rattle.mt_window.specs.Waits.{ServesInTime};
-ghost use Rattle.mt_ram.specs.Laws.{PartialTestsServeInTime, DroppedAttemptsLeaveWords, TicksRest, TicksTest, TicksEndTheirGroup, BoundariesMove, RequestsLeftMove, ServicesLeaveSetting};
+ghost use Rattle.mt_window.specs.Waits.{ServesInTime, KeepsBoard};
+ghost use Rattle.mt_ram.specs.Plain.{LeavesNoTrace, PartialTestsLeaveNoTrace};
+ghost use Rattle.mt_ram.specs.Laws.{PartialTestsServeInTime, PartialTestsKeepTheBoard, DroppedAttemptsLeaveWords, TicksRest, TicksTest, TicksEndTheirGroup, BoundariesMove, RequestsLeftMove, ServicesLeaveSetting};
 
 use crate::pass_walk::PassWalk;
 use crate::state::Ram;
@@ -25,9 +26,30 @@ pub fn waits_of_running_calls()
     waits_are_short::<Ram, TestWalk>();
 }
 
+/// Running calls leave the board's shape, fault, flash words and defect, and whether interrupts are held.
+pub fn running_calls_keep_the_board()
+    ensures tick { KeepsBoard ticking }
+    ensures full { KeepsBoard full_test }
+    ensures partial { PartialTestsKeepTheBoard }
+{
+    requests_are_served::<Ram, PassWalk>();
+    requests_are_served::<Ram, TestWalk>();
+}
+
 /// On a board without a fault an attempt that is dropped leaves the words as they were.
 pub fn dropped_attempts_leave_words()
     ensures { DroppedAttemptsLeaveWords }
+{
+    attempts_on_sound_memory();
+}
+
+/// On sound memory a running call comes to the same where its sequences touch no word of the application, but that each one
+/// that has ended leaves the fill of a destructive block: whatever the requests' handlers do, and over attempts that urgent
+/// requests end.
+pub fn tests_leave_no_trace()
+    ensures tick { LeavesNoTrace ticking }
+    ensures full { LeavesNoTrace full_test }
+    ensures partial { PartialTestsLeaveNoTrace }
 {
     attempts_on_sound_memory();
 }

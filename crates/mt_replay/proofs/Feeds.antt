@@ -3,7 +3,7 @@ use Rattle.std.proofs.Common.{ℕ, suc, ◌+◌, ◌<◌, ◌≤◌, ◌≡◌, 
 use Rattle.std.specs.List.{prefix_len}
 use Rattle.std.proofs.lemmas.Bool.{false≢true}
 use Rattle.std.proofs.lemmas.Bool.Decides.{eqb_tells}
-use Rattle.mt_replay.specs.Input.{HasNoFeed}
+use Rattle.mt_replay.specs.Inner.Reading.{HasNoFeed}
 
 abbrev pub feed_len : List ℕ → ℕ
 feed_len xs = prefix_len (λ b. not (b == 10)) xs

@@ -1,5 +1,5 @@
--- What `fmt` wrote, `fmt` gives back.
-use Rattle.std.proofs.Common.{ℕ, ◌+◌, ◌≡◌, ◌≤◌, Bool, true, false, cond, List, [], ◌∷◌, ◌++◌, length, All, Option, Some, None, Result, Ok, Err, refl, sym, ap, ◌∙◌, subst, append_assoc, arith}
+-- The canonical text of a job is that job.
+use Rattle.std.proofs.Common.{ℕ, ◌+◌, ◌-◌, ◌≡◌, ◌≢◌, ◌≤◌, Bool, true, false, cond, List, [], ◌∷◌, ◌++◌, length, All, Option, Some, None, Result, Ok, Err, refl, sym, ap, ◌∙◌, subst, append_assoc, append-nil, arith}
 use Rattle.std.specs.Prelude.{nat_lt}
 use Rattle.std.proofs.lemmas.Bool.Decides.{nat_tests}
 use Rattle.std.proofs.lemmas.List.Elements.{All-head, All-tail}
@@ -10,9 +10,9 @@ use Rattle.mt_port.specs.Board.{IsWithinLimits}
 use Rattle.mt_text.specs.declared.line.Line.{Line}
 use Rattle.mt_text.specs.declared.line.LineRefusal.{LineRefusal}
 use Rattle.mt_text.specs.Lines.{line_of}
+use Rattle.mt_text.specs.Accepted.{IsAccepted}
 use Rattle.mt_text.specs.Canonical.{canonical}
-use Rattle.mt_text.proofs.Readings.{spells_from, comes_from_spells}
-use Rattle.mt_text.proofs.Parts.{spelled_is_accepted}
+use Rattle.mt_text.proofs.Readings.{comes_from_spells}
 use Rattle.mt_text.proofs.RoundTrip.{canonical_spells}
 use Rattle.mt_conf.specs.declared.config.Config.{Config}
 use Rattle.mt_conf.specs.declared.config.ConfigRefusal.{ConfigRefusal}
@@ -20,17 +20,21 @@ use Rattle.mt_conf.specs.Outcome.{document, first_broken, read_of, outcome as co
 use Rattle.mt_conf.specs.Accepted.{IsAcceptedConfig}
 use Rattle.mt_conf.specs.Canonical.{config_text}
 use Rattle.mt_conf.specs.Laws.{AcceptedIsTaken}
+use Rattle.mt_replay.specs.declared.form.Form.{Form}
 use Rattle.mt_replay.specs.declared.form.Form.TheVariants as forms
-use Rattle.mt_replay.specs.declared.form.Task.{Task}
-use Rattle.mt_replay.specs.declared.refused.Refused.TheVariants as because
+use Rattle.mt_replay.specs.declared.run.End.{End}
+use Rattle.mt_replay.specs.declared.run.End.TheVariants as end
 use Rattle.mt_replay.specs.declared.status.Status.TheVariants as status
 use Rattle.mt_replay.specs.Input.{Finished, Cut, cut, led, Parted, job_of}
-use Rattle.mt_replay.specs.Machine.{Machine, started}
-use Rattle.mt_replay.specs.Outcome.{Run, Outcome, done, refused, preceded, answered, judged, last_judged, run_lines, run_script, opening_text, ran, bad_config, scripted, configured, by_job, outcome}
-use Rattle.mt_replay.specs.Fixed.{formatted, HasShortLines, FormatIsFixed}
+use Rattle.mt_replay.specs.Machine.{started}
+use Rattle.mt_replay.specs.Script.{Script, ended, led_by, taken, judged, script_from}
+use Rattle.mt_replay.specs.Outcome.{Outcome, migrated, canonical_lines, opening_text, end_text, scripted, outcome}
+use Rattle.mt_replay.specs.Fixed.{formatted, migrated_outcome, HasShortLines, FormattingKeepsOutcomes, MigratingKeepsOutcomes}
 use Rattle.mt_replay.proofs.Lines.{cut-line}
 use Rattle.mt_replay.proofs.Feedless.{no_feed, canonical_feedless}
 use Rattle.mt_replay.proofs.Openings.{opening_parts}
+use Rattle.mt_replay.proofs.Taken.{AreTaken, lines-taken, lines-count}
+use Rattle.mt_replay.proofs.Accepted.{short_is, is_short, done_is, small}
 
 -- ---- the configuration
 
@@ -48,96 +52,88 @@ config_accepted law bytes c h = read_accepted law (document bytes) c h
 
 -- ---- the script
 
-abbrev formatting : Shape → Task
-formatting shape = record { form = forms.Format; shape = shape }
-
--- the text of a run, as a script, gives that run again
-abbrev Repeats : Shape → Machine → ℕ → Run → Type 0
-Repeats shape m n run = run.status ≡ status.Done → HasShortLines run.text → run_script (formatting shape) Finished m n (cut run.text) ≡ run
-
--- what is made of a line that is neither too late nor too long, and that is read
-accepted : (task : Task) (m : Machine) (n : ℕ) (text : List ℕ) (line : Line) (follow : Machine → Run) → nat_lt 1000000 n ≡ false → nat_lt 1024 (length text) ≡ false → line_of task.shape text ≡ Ok line
-    → judged task m n text follow ≡ answered task m n (Ok line) follow
-accepted task m n text line follow early short is =
-    ap (λ (late : Bool). cond late (refused m n 11 1) (cond (nat_lt 1024 (length text)) (refused m n 10 1025) (answered task m n (line_of task.shape text) follow))) early
-    ∙ ap (λ (long : Bool). cond long (refused m n 10 1025) (answered task m n (line_of task.shape text) follow)) short
-    ∙ ap (λ (r : Result Line LineRefusal). answered task m n r follow) is
-
--- the canonical text of a line that was read is read as that line
-read_again : (shape : Shape) (text : List ℕ) (line : Line) → IsWithinLimits shape → line_of shape text ≡ Ok line → line_of shape (canonical shape.width line) ≡ Ok line
-read_again shape text line limits is =
-    comes_from_spells shape (canonical shape.width line) line (canonical_spells shape line limits (spelled_is_accepted shape text line (spells_from shape text line is)))
-
 abbrev IsShort : List ℕ → Type 0
 IsShort line = length line ≤ 1024
 
 not_long : (n : ℕ) → n ≤ 1024 → nat_lt 1024 n ≡ false
 not_long n h = grind (arith, nat_tests)
 
-line_repeats : (shape : Shape) (m : Machine) (n : ℕ) (line : Line) (follow : Machine → Run) → nat_lt 1000000 n ≡ false → line_of shape (canonical shape.width line) ≡ Ok line → Repeats shape m (n + 1) (follow m)
-    → Repeats shape m n (answered (formatting shape) m n (Ok line) follow)
-line_repeats shape m n line follow early is next ended short =
+-- a line that is neither too late nor too long, and that is read
+read_line : (shape : Shape) (n : ℕ) (text : List ℕ) (line : Line) (more : Script) → nat_lt 1000000 n ≡ false → nat_lt 1024 (length text) ≡ false → line_of shape text ≡ Ok line
+    → judged shape n text more ≡ led_by (line ∷ []) more
+read_line shape n text line more early short is =
+    ap (λ (late : Bool). cond late (ended (end.Refused n 11 1)) (cond (nat_lt 1024 (length text)) (ended (end.Refused n 10 1025)) (taken (line_of shape text) n more))) early
+    ∙ ap (λ (long : Bool). cond long (ended (end.Refused n 10 1025)) (taken (line_of shape text) n more)) short
+    ∙ ap (λ (r : Result Line LineRefusal). taken r n more) is
+
+-- the canonical text of a line is read as that line
+read_again : (shape : Shape) (line : Line) → IsWithinLimits shape → IsAccepted shape line → line_of shape (canonical shape.width line) ≡ Ok line
+read_again shape line limits ok = comes_from_spells shape (canonical shape.width line) line (canonical_spells shape line limits ok)
+
+-- the canonical text of lines is read as these lines
+pub lines_again : (shape : Shape) (n : ℕ) (lines : List Line) → 1 ≤ n → IsWithinLimits shape → AreTaken shape n lines → HasShortLines (canonical_lines shape lines)
+    → script_from shape Finished n (cut (canonical_lines shape lines)) ≡ record { lines = lines; end = end.Whole ((n - 1) + length lines) }
+lines_again shape n [] some limits h short = let e : n - 1 ≡ (n - 1) + 0 = omega arith in ap (λ (k : ℕ). ended (end.Whole k)) e
+lines_again shape n (line ∷ more) some limits h short =
     let text = canonical shape.width line in
-    let rest = cut (follow m).text in
-    let cuts : cut ((text ++ 10 ∷ []) ++ (follow m).text) ≡ led text rest = ap cut (append_assoc text (10 ∷ []) (follow m).text) ∙ cut-line text (follow m).text (no_feed text (canonical_feedless shape.width line)) in
+    let behind = canonical_lines shape more in
+    let rest = cut behind in
+    let cuts : cut ((text ++ 10 ∷ []) ++ behind) ≡ led text rest = ap cut (append_assoc text (10 ∷ []) behind) ∙ cut-line text behind (no_feed text (canonical_feedless shape.width line)) in
     let lines : All IsShort (text ∷ rest.lines) = subst (λ (k : Cut). All IsShort k.lines) cuts short in
-    let again = next ended (All-tail IsShort text rest.lines lines) in
-    ap (run_script (formatting shape) Finished m n) cuts
-    ∙ accepted (formatting shape) m n text line (λ after. run_lines (formatting shape) Finished after (n + 1) rest.lines rest.rest) early
-    (not_long (length text) (All-head IsShort text rest.lines lines)) is
-    ∙ ap (preceded (text ++ 10 ∷ []) []) again
+    let again = lines_again shape (n + 1) more (omega arith) limits h.more (All-tail IsShort text rest.lines lines) in
+    let count : ((n + 1) - 1) + length more ≡ (n - 1) + length (line ∷ more) = omega arith in
+    ap (script_from shape Finished n) cuts
+    ∙ read_line shape n text line (script_from shape Finished (n + 1) rest) h.early (not_long (length text) (All-head IsShort text rest.lines lines)) (read_again shape line limits h.accepted)
+    ∙ ap (led_by (line ∷ [])) again
+    ∙ ap (λ (k : ℕ). let s : Script = record { lines = line ∷ more; end = end.Whole k } in s) count
 
-answered_repeats : (shape : Shape) (m : Machine) (n : ℕ) (text : List ℕ) (r : Result Line LineRefusal) (follow : Machine → Run) → IsWithinLimits shape → nat_lt 1000000 n ≡ false → line_of shape text ≡ r
-    → Repeats shape m (n + 1) (follow m) → Repeats shape m n (answered (formatting shape) m n r follow)
-answered_repeats shape m n text (Err e) follow limits early is next ended short = absurd cc
-answered_repeats shape m n text (Ok line) follow limits early is next ended short = line_repeats shape m n line follow early (read_again shape text line limits is) next ended short
-
-judged_repeats : (shape : Shape) (m : Machine) (n : ℕ) (text : List ℕ) (follow : Machine → Run) → IsWithinLimits shape → Repeats shape m (n + 1) (follow m) → Repeats shape m n (judged (formatting shape) m n text follow)
-judged_repeats shape m n text follow limits next = of (nat_lt 1000000 n) (nat_lt 1024 (length text)) refl
-  where
-    of : (late long : Bool) → nat_lt 1000000 n ≡ late → Repeats shape m n (cond late (refused m n 11 1) (cond long (refused m n 10 1025) (answered (formatting shape) m n (line_of shape text) follow)))
-    of true long e ended short = absurd cc
-    of false true e ended short = absurd cc
-    of false false e ended short = answered_repeats shape m n text (line_of shape text) follow limits e refl next ended short
-
-last_repeats : (shape : Shape) (m : Machine) (n : ℕ) (rest : List ℕ) → IsWithinLimits shape → Repeats shape m n (last_judged (formatting shape) Finished m n rest)
-last_repeats shape m n [] limits = λ ended short. refl
-last_repeats shape m n (byte ∷ bytes) limits = judged_repeats shape m n (byte ∷ bytes) (λ after. done (formatting shape) after n) limits (λ ended short. refl)
-
-lines_repeat : (shape : Shape) (m : Machine) (n : ℕ) (lines : List (List ℕ)) (rest : List ℕ) → IsWithinLimits shape → Repeats shape m n (run_lines (formatting shape) Finished m n lines rest)
-lines_repeat shape m n [] rest limits = last_repeats shape m n rest limits
-lines_repeat shape m n (line ∷ more) rest limits =
-    judged_repeats shape m n line (λ after. run_lines (formatting shape) Finished after (n + 1) more rest) limits (lines_repeat shape m (n + 1) more rest limits)
+-- a whole script is read back
+pub script_again : (shape : Shape) (script : Cut) (count : ℕ) → IsWithinLimits shape → (script_from shape Finished 1 script).end ≡ end.Whole count
+    → HasShortLines (canonical_lines shape (script_from shape Finished 1 script).lines)
+    → script_from shape Finished 1 (cut (canonical_lines shape (script_from shape Finished 1 script).lines)) ≡ script_from shape Finished 1 script
+script_again shape script count limits whole short =
+    let s = script_from shape Finished 1 script in
+    let counted = lines-count shape 1 script.lines script.rest (omega arith) count whole in
+    lines_again shape 1 s.lines (omega arith) limits (lines-taken shape Finished 1 script.lines script.rest) short
+    ∙ ap (λ (e : End). let r : Script = record { lines = s.lines; end = e } in r) (ap (λ (k : ℕ). end.Whole k) (sym counted) ∙ sym whole)
 
 -- ---- the job
 
-parted_gives : (defect : Option Fault) (bytes config : List ℕ) (script : Cut) (long : Bool) → job_of Finished bytes ≡ Parted config script → nat_lt 65536 (length config) ≡ long
-    → formatted defect bytes ≡ cond long (bad_config (because.Rule 18)) (configured forms.Format Finished defect (config_of config) script)
-unfolding outcome
-parted_gives defect bytes config script long job e =
-    ap (by_job forms.Format Finished defect) job ∙ ap (λ (b : Bool). cond b (bad_config (because.Rule 18)) (configured forms.Format Finished defect (config_of config) script)) e
-
-not_too_long : (defect : Option Fault) (bytes config : List ℕ) (script : Cut) (long : Bool) → job_of Finished bytes ≡ Parted config script → nat_lt 65536 (length config) ≡ long
-    → (formatted defect bytes).status ≡ status.Done → nat_lt 65536 (length config) ≡ false
-not_too_long defect bytes config script false job e ended = e
-not_too_long defect bytes config script true job e ended =
-    absurd (let refused : status.BadConfig 18 ≡ status.Done = sym (ap (λ (o : Outcome). o.status) (parted_gives defect bytes config script true job e)) ∙ ended in cc)
-
-script_of : (defect : Option Fault) (bytes config : List ℕ) (script : Cut) (c : Config) → job_of Finished bytes ≡ Parted config script → nat_lt 65536 (length config) ≡ false → config_of config ≡ Ok c
-    → formatted defect bytes ≡ scripted forms.Format c Finished (started c defect) script
-script_of defect bytes config script c job short is =
-    parted_gives defect bytes config script false job short ∙ ap (λ (r : Result Config ConfigRefusal). configured forms.Format Finished defect r script) is
-
-small : (n : ℕ) → n ≤ 65536 → nat_lt 65536 n ≡ false
-small n h = grind (arith, nat_tests)
-
-pub formatting_is_fixed : AcceptedIsTaken → FormatIsFixed
-formatting_is_fixed law defect bytes config script c job is ended again fits short =
+pub formatting_keeps_outcomes : AcceptedIsTaken → FormattingKeepsOutcomes
+formatting_keeps_outcomes law form defect bytes config script c job is done again fits short =
+    let s = script_from c.shape Finished 1 script in
     let m = started c defect in
-    let run = run_script (formatting c.shape) Finished m 1 script in
+    let within = is_short forms.Format defect bytes config script job done in
+    let first = short_is forms.Format defect bytes config script c job within is in
+    let whole = done_is s.end (sym (ap (λ (o : Outcome). o.status) first) ∙ done) in
     let opening = opening_text forms.Format c in
-    let first = script_of defect bytes config script c job (not_too_long defect bytes config script (nat_lt 65536 (length config)) job refl ended) is in
-    let whole : run.status ≡ status.Done = sym (ap (λ (o : Outcome). o.status) first) ∙ ended in
-    let second = script_of defect (opening ++ run.text) (config_text c) (cut run.text) c (opening_parts c run.text) (small (length (config_text c)) fits) again in
-    let same = lines_repeat c.shape m 1 script.lines script.rest (config_accepted law config c is).limits whole short in
-    ap (λ (o : Outcome). formatted defect o.text) first ∙ second ∙ ap (ran forms.Format opening) same ∙ sym first
+    let text = canonical_lines c.shape s.lines in
+    let written : (formatted defect bytes).text ≡ opening ++ text = ap (λ (o : Outcome). o.text) first ∙ ap (λ (e : End). (opening ++ text) ++ end_text forms.Format c e) whole.1 ∙ append-nil (opening ++ text) in
+    ap (outcome form Finished defect) written
+    ∙ short_is form defect (opening ++ text) (config_text c) (cut text) c (opening_parts c text) (small (length (config_text c)) fits) again
+    ∙ ap (scripted form c m) (script_again c.shape script whole.0 (config_accepted law config c is).limits whole.1 short)
+    ∙ sym (short_is form defect bytes config script c job within is)
+
+-- but for canonical form, the version is told nowhere
+same_script : (form : Form) → form ≢ forms.Format → (c : Config) (defect : Option Fault) (s : Script) → scripted form (migrated c) (started (migrated c) defect) s ≡ scripted form c (started c defect) s
+same_script forms.Run other c defect s = refl
+same_script forms.Check other c defect s = refl
+same_script forms.Format other c defect s = absurd (other refl)
+same_script forms.Migrate other c defect s = refl
+same_script (forms.Cut ask) other c defect s = refl
+
+pub migrating_keeps_outcomes : AcceptedIsTaken → MigratingKeepsOutcomes
+migrating_keeps_outcomes law form defect bytes config script c other job is done again fits short =
+    let s = script_from c.shape Finished 1 script in
+    let m = started c defect in
+    let within = is_short forms.Migrate defect bytes config script job done in
+    let first = short_is forms.Migrate defect bytes config script c job within is in
+    let whole = done_is s.end (sym (ap (λ (o : Outcome). o.status) first) ∙ done) in
+    let opening = opening_text forms.Migrate c in
+    let text = canonical_lines c.shape s.lines in
+    let written : (migrated_outcome defect bytes).text ≡ opening ++ text = ap (λ (o : Outcome). o.text) first ∙ ap (λ (e : End). (opening ++ text) ++ end_text forms.Migrate c e) whole.1 ∙ append-nil (opening ++ text) in
+    ap (outcome form Finished defect) written
+    ∙ short_is form defect (opening ++ text) (config_text (migrated c)) (cut text) (migrated c) (opening_parts (migrated c) text) (small (length (config_text (migrated c))) fits) again
+    ∙ same_script form other c defect (script_from c.shape Finished 1 (cut text))
+    ∙ ap (scripted form c m) (script_again c.shape script whole.0 (config_accepted law config c is).limits whole.1 short)
+    ∙ sym (short_is form defect bytes config script c job within is)

@@ -6,8 +6,9 @@ use Rattle.std.proofs.lemmas.List.{take-append-drop, take-append-le, take_all, d
 use Rattle.std.specs.Io.KnownBytes.{prepend_known}
 use Rattle.mt_port.specs.Streams.{WhereTold}
 use Rattle.mt_port.proofs.StreamLemmas.{WhereTold-then, WhereTold-map}
-use Rattle.mt_replay.specs.Input.{Ending, Finished, Failed, Cut, cut, HasNoFeed, separator, Job, Parted, Whole, preceded_by, parted, parted_at_end, job_of}
-use Rattle.mt_replay.specs.Head.{ByteGives, IsTooLong, Parts, EndsWith, Exceeds, HeadBreaks}
+use Rattle.mt_replay.specs.Input.{Ending, Finished, Failed, Cut, cut, separator, Job, Parted, Whole, preceded_by, parted, parted_at_end, job_of}
+use Rattle.mt_replay.specs.Inner.Reading.{HasNoFeed}
+use Rattle.mt_replay.specs.Inner.Head.{ByteGives, IsTooLong, Parts, EndsWith, Exceeds, HeadBreaks}
 use Rattle.mt_replay.proofs.Lines.{Filled, cut-line, cut-rest, cut-long, BeginsWith}
 
 pub preceded_by-nil : (job : Job) → preceded_by [] job ≡ job

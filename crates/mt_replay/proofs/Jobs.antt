@@ -1,34 +1,42 @@
 -- From the configuration and the script to the job.
-use Rattle.std.proofs.Common.{ℕ, ◌≡◌, List, [], ◌∷◌, ◌++◌, length, Option, Some, None, ◌⊎◌, inl, inr, refl, sym, ap, ◌∙◌, subst, arith, append_assoc, append-nil}
+use Rattle.std.proofs.Common.{ℕ, ◌+◌, ◌≡◌, List, [], ◌∷◌, ◌++◌, length, Option, Some, None, ◌⊎◌, inl, inr, refl, sym, ap, ◌∙◌, subst, arith, append_assoc, append-nil, cond}
+use Rattle.std.specs.Prelude.{slice_get}
 use Rattle.std.proofs.lemmas.Bool.{lt-leb, lt-ltb}
 use Rattle.std.specs.Io.KnownBytes.{prepend_known, Appends}
+use Rattle.mt_port.specs.Causes.{Rose}
 use Rattle.mt_port.specs.Streams.{WhereTold, AppendsFront}
-use Rattle.mt_port.specs.Board.{Board}
+use Rattle.mt_port.specs.Board.{Board, Logs}
+use Rattle.mt_port.specs.declared.board.Shape.{Shape}
 use Rattle.mt_port.specs.declared.board.Touch.{Touch}
-use Rattle.mt_port.proofs.StreamLemmas.{Appends-trans, AppendsFront-after, WhereTold-map}
+use Rattle.mt_port.proofs.StreamLemmas.{Appends-trans, AppendsFront-after, AppendsFront-more, WhereTold-map}
 use Rattle.mt_fault.specs.declared.fault.Fault.{Fault as MemoryFault}
+use Rattle.mt_blocks.specs.declared.config.ParamSet.{ParamSet}
+use Rattle.mt_text.specs.declared.line.Line.{Line}
 use Rattle.mt_conf.specs.declared.config.Config.{Config}
+use Rattle.mt_replay.specs.declared.form.Form.{Form}
+use Rattle.mt_replay.specs.declared.form.Form.TheVariants as forms
+use Rattle.mt_replay.specs.declared.form.Task.{Task}
 use Rattle.mt_replay.specs.declared.refused.Refused.{Refused}
 use Rattle.mt_replay.specs.declared.refused.Refused.TheVariants as because
 use Rattle.mt_replay.specs.declared.job.Found.{Found}
 use Rattle.mt_replay.specs.declared.job.Found.TheVariants as found
-use Rattle.mt_replay.specs.declared.job.Script.TheVariants as script
+use Rattle.mt_replay.specs.declared.job.Follows.{Follows}
+use Rattle.mt_replay.specs.declared.job.Follows.TheVariants as follows
+use Rattle.mt_replay.specs.declared.run.End.{End}
+use Rattle.mt_replay.specs.declared.run.End.TheVariants as end
 use Rattle.mt_replay.specs.declared.status.Status.{Status}
 use Rattle.mt_replay.specs.declared.status.Status.TheVariants as status
 use Rattle.mt_replay.specs.Input.{Ending, Finished, Failed, cut, Job, Parted, Whole, job_of}
-use Rattle.mt_replay.specs.Head.{Parts, EndsWith, Exceeds, HeadBreaks, IsTooLong}
-use Rattle.mt_replay.specs.Machine.{Machine}
-use Rattle.mt_replay.specs.declared.form.Form.{Form}
-use Rattle.mt_replay.specs.declared.form.Form.TheVariants as forms
-use Rattle.mt_replay.specs.declared.form.Task.{Task}
-use Rattle.mt_replay.specs.Outcome.{Outcome, Run, ran, opening_text, board_after, bad_config, by_job, outcome, run_script, read_fault_text}
-use Rattle.mt_replay.specs.declared.form.Command.{Command}
-use Rattle.mt_replay.specs.Cut.{config_in}
-use Rattle.mt_port.specs.Causes.{Rose}
-use Rattle.mt_replay.specs.Run.{Change, UsesBoard, Ends, Breaks, Stops}
-use Rattle.mt_replay.specs.Replay.{Outcomes, outcomes, command_outcomes, IsFound, IsStart, HasScript, FoundGives, Begins, BeginsEmpty, HeadFails, Concluded, TakenGive, JobGives, empty_text, empty_after, EmptyGives, StatusCaused, Told, Stood, Completes}
-use Rattle.mt_replay.proofs.Forms.{scripted-as, board-is}
-use Rattle.mt_replay.proofs.Runs.{change}
+use Rattle.mt_replay.specs.Inner.Head.{Parts, EndsWith, Exceeds, HeadBreaks, IsTooLong}
+use Rattle.mt_replay.specs.Machine.{Machine, started}
+use Rattle.mt_replay.specs.Script.{Script, ended, led_by, script_from}
+use Rattle.mt_replay.specs.Cut.{chosen_text}
+use Rattle.mt_replay.specs.Outcome.{Outcome, Play, steps_touches, bad_config_text, rule_number, play_of, after_of, lines_text, opening_text, closing_text, end_text, end_status, bad_config, said, read_fault_text, scripted, by_job, outcome}
+use Rattle.mt_replay.specs.Changes.{Change, change, UsesBoard}
+use Rattle.mt_replay.specs.Inner.Runs.{outputs, place, Answered, EndsAt, BeginsWith, EndCaused}
+use Rattle.mt_replay.specs.Inner.Jobs.{IsFound, HasBehind, FoundGives, Begins, BeginsEmpty, HeadFails, HasSet, IsTask, closing_of, task_end, BeginsAs, IsBegun, BeginFails}
+use Rattle.mt_replay.specs.Replay.{Outcomes, outcomes, BoardIs, Concluded, TakenGive, JobGives, StatusCaused, Told, Stood, Completes}
+use Rattle.mt_replay.proofs.Plays.{lines_text-append}
 
 -- what is left before and between, and between and after
 pub told_through : (a b : Option (List ℕ)) (held : List ℕ) (left : Option (List ℕ)) {P : List ℕ → List ℕ → Type 0} (Q : List ℕ → List ℕ → Type 0) {R : List ℕ → List ℕ → Type 0}
@@ -47,8 +55,8 @@ told_behind (Some x) held (Some z) P p f = f x z p
 
 -- ---- the configuration
 
-follows_or_empty : script.Empty ≡ script.Follows → ⊥
-follows_or_empty e = cc
+lines_or_nothing : follows.Nothing ≡ follows.Lines → ⊥
+lines_or_nothing e = cc
 
 part_is : (kept x y : List ℕ) (form : Form) (defect : Option MemoryFault) (h : Parts kept x y) (ending : Ending) (rest : List ℕ) → outcome form ending defect (h.front ++ rest) ≡ by_job form ending defect (Parted kept (cut rest))
 unfolding outcome
@@ -56,17 +64,16 @@ part_is kept x y form defect h ending rest = ap (by_job form ending defect) (h.j
 
 -- the separator was found, and lines may follow
 pub found_follows : (found : Found) (kept x y : List ℕ) → IsFound found kept
-    → HasScript script.Follows found → Parts kept x y → FoundGives found x y
+    → HasBehind follows.Lines found → Parts kept x y → FoundGives found x y
 found_follows found.NoMemory kept x y value same h = tt
 found_follows (found.Refused why) kept x y value same h = λ form defect.
     ap (outcome form Finished defect) h.taken ∙ part_is kept x y form defect h Finished y ∙ value form Finished defect (cut y)
-found_follows (found.Config c script.Follows) kept x y value same h = record {
+found_follows (found.Config c follows.Lines) kept x y value same h = record {
   front = h.front;
   taken = h.taken;
-  is = λ form ending defect rest. part_is kept x y form defect h ending rest ∙ value.0 form ending defect (cut rest);
-  config = λ ending rest. ap config_in (h.job ending rest) ∙ value.1 (cut rest);
+  is = λ form ending defect rest. part_is kept x y form defect h ending rest ∙ value form ending defect (cut rest);
 }
-found_follows (found.Config c script.Empty) kept x y value same h = absurd (follows_or_empty same)
+found_follows (found.Config c follows.Nothing) kept x y value same h = absurd (lines_or_nothing same)
 
 end_is : (given : Job) (x y : List ℕ) (form : Form) (defect : Option MemoryFault) → EndsWith given x y → outcome form Finished defect x ≡ by_job form Finished defect given
 unfolding outcome
@@ -74,15 +81,14 @@ end_is given x y form defect h = ap (by_job form Finished defect) h.job
 
 -- the separator ends the input
 pub found_empty : (found : Found) (kept x y : List ℕ) → IsFound found kept
-    → HasScript script.Empty found → EndsWith (Parted kept (record { lines = []; rest = [] })) x y → FoundGives found x y
+    → HasBehind follows.Nothing found → EndsWith (Parted kept (record { lines = []; rest = [] })) x y → FoundGives found x y
 found_empty found.NoMemory kept x y value same h = tt
 found_empty (found.Refused why) kept x y value same h = λ form defect. end_is _ x y form defect h ∙ value form Finished defect (record { lines = []; rest = [] })
-found_empty (found.Config c script.Empty) kept x y value same h = record {
-  is = λ form defect. end_is _ x y form defect h ∙ value.0 form Finished defect (record { lines = []; rest = [] });
-  config = ap config_in h.job ∙ value.1 (record { lines = []; rest = [] });
+found_empty (found.Config c follows.Nothing) kept x y value same h = record {
+  is = λ form defect. end_is _ x y form defect h ∙ value form Finished defect (record { lines = []; rest = [] });
   all = h.all;
 }
-found_empty (found.Config c script.Follows) kept x y value same h = absurd (follows_or_empty (sym same))
+found_empty (found.Config c follows.Lines) kept x y value same h = absurd (lines_or_nothing (sym same))
 
 pub found_whole : (kept x y : List ℕ) (why : Refused) → ((form : Form) (defect : Option MemoryFault) → by_job form Finished defect (Whole kept) ≡ bad_config why) → EndsWith (Whole kept) x y → FoundGives (found.Refused why) x y
 found_whole kept x y why value h = λ form defect. end_is _ x y form defect h ∙ value form defect
@@ -111,170 +117,243 @@ pub told_after : (result how : Status) (text more : List ℕ) (a b d : Option (L
 told_after result how text more a b d k k' p (inl t) = inl (t.0, Appends-trans a b d text more p t.1.written)
 told_after result how text more a b d k k' p (inr t) = inr (t.0, AppendsFront-after a b d text more p t.1.written)
 
--- ---- the script
+-- ---- what the script gives
 
--- what the script gives behind what stands before it, what the job gives
-abbrev pub opened : Task → Config → Run → Outcome
-opened task c run = ran task.form (opening_text task.form c) run
+-- for the forms that leave the machine, the machine does not matter
+scripted-as : (form : Form) (c : Config) (defect : Option MemoryFault) (m : Machine) (before : Board) (was tape : Option (List Touch)) (script : Script)
+    → BeginsAs form c defect m before was tape → scripted form c (started c defect) script ≡ scripted form c m script
+scripted-as forms.Run c defect m before was tape script h = ap (λ (n : Machine). scripted forms.Run c n script) (sym h.0)
+scripted-as forms.Check c defect m before was tape script h = refl
+scripted-as forms.Format c defect m before was tape script h = refl
+scripted-as forms.Migrate c defect m before was tape script h = refl
+scripted-as (forms.Cut ask) c defect m before was tape script h = refl
 
-job_is : (task : Task) (c : Config) (defect : Option MemoryFault) (m : Machine) (before : Board) (was tape : Option (List Touch)) (x y : List ℕ) (t : Begins c x y) (ending : Ending) (rest : List ℕ)
-    → IsStart task c defect m before was tape → outcome task.form ending defect (t.front ++ rest) ≡ opened task c (run_script task ending m 1 (cut rest))
-job_is task c defect m before was tape x y t ending rest start = t.is task.form ending defect rest ∙ scripted-as task c defect ending m (cut rest) before was tape start
+-- what the bytes give, by how their script ends
+abbrev pub GivesAt : End → Outcomes → Outcome → (before rest : List ℕ) → Type 0
+GivesAt (end.Whole count) given o before rest = (given Finished before ≡ o) × (rest ≡ [])
+GivesAt (end.Refused line code at) given o before rest = given Finished before ≡ o
+GivesAt end.Broken given o before rest = TakenGive given o before rest
 
-pub finished_is : (task : Task) (c : Config) (defect : Option MemoryFault) (m : Machine) (before : Board) (was tape : Option (List Touch)) (x y : List ℕ) → Begins c x y → IsStart task c defect m before was tape
-    → outcome task.form Finished defect x ≡ opened task c (run_script task Finished m 1 (cut y))
-finished_is task c defect m before was tape x y t start = ap (outcome task.form Finished defect) t.taken ∙ job_is task c defect m before was tape x y t Finished y start
+nothing_behind : (xs ys : List ℕ) → xs ++ ys ≡ [] → ys ≡ []
+nothing_behind [] ys n = n
+nothing_behind (x ∷ xs) ys n = cc
 
-behind : (xs ys : List ℕ) → xs ++ ys ≡ [] → ys ≡ []
-behind [] ys n = n
-behind (x ∷ xs) ys n = cc
+-- the outcome of bytes behind a configuration
+begins_is : (form : Form) (c : Config) (defect : Option MemoryFault) (m : Machine) (before : Board) (was tape : Option (List Touch)) (x y : List ℕ) (t : Begins c x y) (ending : Ending) (rest : List ℕ) (script : Script)
+    → BeginsAs form c defect m before was tape → script_from c.shape ending 1 (cut rest) ≡ script → outcome form ending defect (t.front ++ rest) ≡ scripted form c m script
+begins_is form c defect m before was tape x y t ending rest script begins is =
+    t.is form ending defect rest ∙ ap (scripted form c (started c defect)) is ∙ scripted-as form c defect m before was tape script begins
 
-concluded : (how : Status) (task : Task) (c : Config) (defect : Option MemoryFault) (m : Machine) (before board : Board) (held : List ℕ) (a b left h h' h'' : Option (List ℕ)) (was tape tape' : Option (List Touch))
-    → IsStart task c defect m before was tape → Appends h h' (opening_text task.form c) → WhereTold a b (Begins c) → UsesBoard task.form m.board board tape tape'
-    → Ends task m 1 board how (change b (prepend_known held left) h' h'' tape tape') → Concluded (outcomes task.form defect) how before board (change a left h h'' was tape')
-concluded how task c defect m before board held a b left h h' h'' was tape tape' start opening begins uses e =
-    let run : Run = record { text = e.text; touches = e.touches; status = how; board = board } in
-    record {
-      text = opening_text task.form c ++ e.text;
-      after = board_after task.form run;
-      written = Appends-trans h h' h'' (opening_text task.form c) e.text opening e.written;
-      outcome = told_through a b held left _ begins e.run (λ x y z t r. finished_is task c defect m before was tape x y t start ∙ ap (opened task c) r);
-      board = board-is task.form c defect m before board was tape tape' run refl start.begins uses e.taped;
-    }
+pub gives_at : (e : End) (form : Form) (c : Config) (shape : Shape) (defect : Option MemoryFault) (m : Machine) (before : Board) (was tape : Option (List Touch)) (lines : List Line) (held : List ℕ) (a b left : Option (List ℕ))
+    → shape ≡ c.shape → BeginsAs form c defect m before was tape → (e ≡ end.Broken → held ≡ []) → WhereTold a b (Begins c) → WhereTold b (prepend_known held left) (EndsAt e shape 1 lines)
+    → WhereTold a left (GivesAt e (outcomes form defect) (scripted form c m (record { lines = lines; end = e })))
+gives_at (end.Whole count) form c shape defect m before was tape lines held a b left same begins none p q =
+    told_through a b held left _ p (subst (λ (s : Shape). WhereTold b (prepend_known held left) (EndsAt (end.Whole count) s 1 lines)) same q)
+    (λ x y z t h. (ap (outcome form Finished defect) t.taken ∙ begins_is form c defect m before was tape x y t Finished y _ begins h.0, nothing_behind held z h.1))
+gives_at (end.Refused line code at) form c shape defect m before was tape lines held a b left same begins none p q =
+    told_through a b held left _ p (subst (λ (s : Shape). WhereTold b (prepend_known held left) (EndsAt (end.Refused line code at) s 1 lines)) same q)
+    (λ x y z t h. ap (outcome form Finished defect) t.taken ∙ begins_is form c defect m before was tape x y t Finished y _ begins h)
+gives_at end.Broken form c shape defect m before was tape lines held a b left same begins none p q =
+    told_through a b held left _ p (subst (λ (s : Shape). WhereTold b (prepend_known held left) (EndsAt end.Broken s 1 lines)) same q)
+    (λ x y z t h. record {
+      front = t.front ++ h.front;
+      taken = t.taken ∙ ap (λ (l : List ℕ). t.front ++ l) (h.taken ∙ ap (λ (l : List ℕ). h.front ++ (l ++ z)) (none refl)) ∙ sym (append_assoc t.front h.front z);
+      is = begins_is form c defect m before was tape x y t Failed h.front _ begins h.script;
+    })
 
--- a script that came to its end
-pub ended_job : (how : Status) (task : Task) (c : Config) (defect : Option MemoryFault) (m : Machine) (before board : Board) (held : List ℕ) (a b left h h' h'' : Option (List ℕ)) (was tape tape' : Option (List Touch))
-    → IsStart task c defect m before was tape → Appends h h' (opening_text task.form c) → WhereTold a b (Begins c) → UsesBoard task.form m.board board tape tape'
-    → Ends task m 1 board how (change b (prepend_known held left) h' h'' tape tape') → JobGives how (outcomes task.form defect) before board (change a left h h'' was tape')
-ended_job how task c defect m before board held a b left h h' h'' was tape tape' start opening begins uses e = by how e
+-- the same of a configuration that ended the input
+pub gives_empty : (form : Form) (c : Config) (defect : Option MemoryFault) (m : Machine) (before : Board) (was tape : Option (List Touch)) (held : List ℕ) (a left : Option (List ℕ))
+    → BeginsAs form c defect m before was tape → WhereTold a (prepend_known held left) (BeginsEmpty c)
+    → WhereTold a left (GivesAt (end.Whole 0) (outcomes form defect) (scripted form c m (ended (end.Whole 0))))
+gives_empty form c defect m before was tape held a left begins p =
+    told_behind a held left _ p (λ x z t. (t.is form defect ∙ scripted-as form c defect m before was tape (ended (end.Whole 0)) begins, nothing_behind held z t.all))
+
+-- ---- how it is told
+
+closing-is : (form : Form) (c : Config) (set : Option ParamSet) (count : ℕ) → HasSet form set c → closing_of form set count ≡ closing_text form c count
+closing-is forms.Run c set count h = refl
+closing-is forms.Check c set count h = refl
+closing-is forms.Format c set count h = refl
+closing-is forms.Migrate c set count h = refl
+closing-is (forms.Cut ask) c set count h = ap (chosen_text ask) h
+
+task_end-is : (e : End) (form : Form) (c : Config) (task : Task) → IsTask form c task → task_end task e ≡ end_text form c e
+task_end-is (end.Whole count) form c task t = ap (λ (f : Form). closing_of f task.set count) t.same ∙ closing-is form c task.set count t.set
+task_end-is (end.Refused line code at) form c task t = refl
+task_end-is end.Broken form c task t = refl
+
+board_is : (form : Form) (c : Config) (defect : Option MemoryFault) (m m' : Machine) (before : Board) (was tape tape' : Option (List Touch)) (play : Play)
+    → BeginsAs form c defect m before was tape → UsesBoard form m.board m'.board tape tape' → m' ≡ play.after → Logs tape tape' (steps_touches play.steps)
+    → BoardIs (after_of form play) before m'.board was tape'
+board_is forms.Run c defect m m' before was tape tape' play begins uses after taped =
+    (ap (λ (n : Machine). n.board) after, subst (λ (t : Option (List Touch)). Logs t tape' (steps_touches play.steps)) begins.1 taped)
+board_is forms.Check c defect m m' before was tape tape' play begins uses after taped = (uses.0 ∙ begins.0, uses.1 ∙ begins.1)
+board_is forms.Format c defect m m' before was tape tape' play begins uses after taped = (uses.0 ∙ begins.0, uses.1 ∙ begins.1)
+board_is forms.Migrate c defect m m' before was tape tape' play begins uses after taped = (uses.0 ∙ begins.0, uses.1 ∙ begins.1)
+board_is (forms.Cut ask) c defect m m' before was tape tape' play begins uses after taped = (uses.0 ∙ begins.0, uses.1 ∙ begins.1)
+
+-- a whole text was told
+whole_job : (e : End) (given : Outcomes) (o : Outcome) (old new : Board) (source source' : ℕ) (a left h h' : Option (List ℕ)) (was tape' : Option (List Touch)) → o.status ≡ end_status e
+    → WhereTold a left (GivesAt e given o) → Appends h h' o.text → BoardIs o.after old new was tape' → JobGives (end_status e) given old new source source' (change a left h h' was tape')
+whole_job (end.Whole count) given o old new source source' a left h h' was tape' how is written board = (
+  record { outcome = o; status = how; written = written; is = WhereTold-map a left is (λ x y g. g.0); board = board },
+  WhereTold-map a left is (λ x y g. g.1),
+)
+whole_job (end.Refused line code at) given o old new source source' a left h h' was tape' how is written board = record { outcome = o; status = how; written = written; is = is; board = board }
+whole_job end.Broken given o old new source source' a left h h' was tape' how is written board = record { outcome = o; status = how; written = written; is = is; board = board }
+
+-- the sink failed in it
+cut_job : (e : End) (given : Outcomes) (o : Outcome) (old new : Board) (source source' : ℕ) (a left h h' : Option (List ℕ)) (was tape' : Option (List Touch))
+    → WhereTold a left (GivesAt e given o) → EndCaused e source source' → AppendsFront h h' o.text → JobGives status.WriteFault given old new source source' (change a left h h' was tape')
+cut_job (end.Whole count) given o old new source source' a left h h' was tape' is cause written =
+    record { text = o.text; written = written; defined = WhereTold-map a left is (λ x y g. inl (cause, [], ap (λ (r : Outcome). r.text) g.0 ∙ sym (append-nil o.text))) }
+cut_job (end.Refused line code at) given o old new source source' a left h h' was tape' is cause written =
+    record { text = o.text; written = written; defined = WhereTold-map a left is (λ x y g. inl (cause, [], ap (λ (r : Outcome). r.text) g ∙ sym (append-nil o.text))) }
+cut_job end.Broken given o old new source source' a left h h' was tape' is cause written =
+    record { text = o.text; written = written; defined = WhereTold-map a left is (λ x y g. inr (cause, g.front, g.taken, ap (λ (r : Outcome). r.text) g.is)) }
+
+-- a script that came to its end, which was told
+pub ended_job : (result : Status) (e : End) (form : Form) (c : Config) (task : Task) (defect : Option MemoryFault) (m m' : Machine) (before : Board) (lines : List Line) (a left h h' h'' hend : Option (List ℕ))
+    (was tape tape' : Option (List Touch)) (source source' sink sink' : ℕ)
+    → IsTask form c task → IsBegun form c defect m before (outputs h h' was tape) → Answered (place form task.shape 1) m m' lines (outputs h' h'' tape tape') → UsesBoard form m.board m'.board tape tape'
+    → WhereTold a left (GivesAt e (outcomes form defect) (scripted form c m (record { lines = lines; end = e }))) → EndCaused e source source' → Told result (end_status e) (task_end task e) h'' hend sink sink'
+    → JobGives result (outcomes form defect) before m'.board source source' (change a left h hend was tape')
+ended_job result e form c task defect m m' before lines a left h h' h'' hend was tape tape' source source' sink sink' t begun answered uses is cause told =
+    let o : Outcome = scripted form c m (record { lines = lines; end = e }) in
+    let body : Appends h' h'' (lines_text form c.shape m 1 lines) = subst (λ (s : Shape). Appends h' h'' (lines_text form s m 1 lines)) t.shape answered.written in
+    let front = Appends-trans h h' h'' (opening_text form c) (lines_text form c.shape m 1 lines) begun.written body in
+    let end_told = subst (λ (text : List ℕ). Told result (end_status e) text h'' hend sink sink') (task_end-is e form c task t) told in
+    let board = board_is form c defect m m' before was tape tape' (play_of form m lines) begun.machine uses answered.after answered.taped in
+    (elim (told_after result (end_status e) (opening_text form c ++ lines_text form c.shape m 1 lines) (end_text form c e) h h'' hend sink sink' front end_told) [
+      | inl w ↦ subst (λ (s : Status). JobGives s (outcomes form defect) before m'.board source source' (change a left h hend was tape')) (sym w.0)
+          (whole_job e (outcomes form defect) o before m'.board source source' a left h hend was tape' refl is w.1 board)
+      | inr w ↦ subst (λ (s : Status). JobGives s (outcomes form defect) before m'.board source source' (change a left h hend was tape')) (sym w.0)
+          (cut_job e (outcomes form defect) o before m'.board source source' a left h hend was tape' is cause w.1)
+    ])
+
+pub ended_caused : (result : Status) (e : End) (text : List ℕ) (h h' : Option (List ℕ)) (source source' sink sink' sink'' : ℕ) → EndCaused e source source' → sink' ≡ sink → Told result (end_status e) text h h' sink' sink''
+    → StatusCaused result source source' sink sink''
+ended_caused result e text h h' source source' sink sink' sink'' cause same (inl t) = subst (λ (s : Status). StatusCaused s source source' sink sink'') (sym t.0) (by e cause)
   where
-    by : (s : Status) → Ends task m 1 board s (change b (prepend_known held left) h' h'' tape tape') → JobGives s (outcomes task.form defect) before board (change a left h h'' was tape')
-    by status.Done e = (concluded status.Done task c defect m before board held a b left h h' h'' was tape tape' start opening begins uses e, told_through a b held left _ begins (e.all refl) (λ x y z t n. behind held z n))
-    by (status.BadScript line code place) e = concluded (status.BadScript line code place) task c defect m before board held a b left h h' h'' was tape tape' start opening begins uses e
-    by (status.BadConfig code) e = absurd e.plain
-    by status.Usage e = absurd e.plain
-    by status.ReadFault e = absurd e.plain
-    by status.WriteFault e = absurd e.plain
-    by status.NoMemory e = absurd e.plain
-
--- the bytes that were taken of the configuration and of the script
-pub broken_is : (task : Task) (c : Config) (defect : Option MemoryFault) (m : Machine) (before : Board) (was tape : Option (List Touch)) (run : Run) (held x y z : List ℕ) (t : Begins c x y) (front : List ℕ)
-    → IsStart task c defect m before was tape → held ≡ [] → y ≡ front ++ (held ++ z) → run_script task Failed m 1 (cut front) ≡ run → TakenGive (outcomes task.form defect) (opened task c run) x z
-broken_is task c defect m before was tape run held x y z t front start none taken is = record {
-  front = t.front ++ front;
-  taken = t.taken ∙ ap (λ (l : List ℕ). t.front ++ l) (taken ∙ ap (λ (l : List ℕ). front ++ (l ++ z)) none) ∙ sym (append_assoc t.front front z);
-  is = job_is task c defect m before was tape x y t Failed front start ∙ ap (opened task c) is;
-}
-
--- a script in which the source failed, and the text of that
-pub broken_job : (result : Status) (task : Task) (c : Config) (defect : Option MemoryFault) (m : Machine) (before board : Board) (held : List ℕ) (a b left h h' h'' hend : Option (List ℕ)) (was tape tape' : Option (List Touch)) (k k' : ℕ)
-    → IsStart task c defect m before was tape → Appends h h' (opening_text task.form c) → WhereTold a b (Begins c) → UsesBoard task.form m.board board tape tape' → held ≡ []
-    → Breaks task m 1 board (change b (prepend_known held left) h' h'' tape tape') → Told result status.ReadFault read_fault_text h'' hend k k'
-    → JobGives result (outcomes task.form defect) before board (change a left h hend was tape')
-broken_job result task c defect m before board held a b left h h' h'' hend was tape tape' k k' start opening begins uses none e t =
-    elim (told_after result status.ReadFault (opening_text task.form c ++ e.text) read_fault_text h h'' hend k k' (Appends-trans h h' h'' (opening_text task.form c) e.text opening e.written) t) [
-      | inl w ↦ subst (λ (s : Status). JobGives s (outcomes task.form defect) before board (change a left h hend was tape')) (sym w.0) (record {
-        text = opening_text task.form c ++ (e.text ++ read_fault_text);
-        after = board_after task.form run;
-        written = subst (Appends h hend) (append_assoc (opening_text task.form c) e.text read_fault_text) w.1;
-        outcome = taken;
-        board = board-is task.form c defect m before board was tape tape' run refl start.begins uses e.taped;
-      })
-      | inr w ↦ subst (λ (s : Status). JobGives s (outcomes task.form defect) before board (change a left h hend was tape')) (sym w.0) (record {
-        text = opening_text task.form c ++ (e.text ++ read_fault_text);
-        written = subst (AppendsFront h hend) (append_assoc (opening_text task.form c) e.text read_fault_text) w.1;
-        defined = WhereTold-map a left taken (λ x z r. inr (r.front, r.taken, ap (λ (o : Outcome). o.text) r.is));
-      })
-    ]
+    by : (e : End) → EndCaused e source source' → StatusCaused (end_status e) source source' sink sink''
+    by (end.Whole count) k = (k, t.1.same ∙ same)
+    by (end.Refused line code at) k = (k, t.1.same ∙ same)
+    by end.Broken k = (k, t.1.same ∙ same)
+ended_caused result e text h h' source source' sink sink' sink'' cause same (inr t) =
+    subst (λ (s : Status). StatusCaused s source source' sink sink'') (sym t.0) (subst (λ (k : ℕ). Rose k sink'') same t.1.cause, by e cause)
   where
-    run : Run
-    run = record { text = e.text ++ read_fault_text; touches = e.touches; status = status.ReadFault; board = board }
-
-    taken : WhereTold a left (TakenGive (outcomes task.form defect) (opened task c run))
-    taken = told_through a b held left _ begins e.run (λ x y z t r. broken_is task c defect m before was tape _ held x y z t r.front start none r.taken r.run)
-
--- a script whose text could not be written in full
-pub stopped_job : (task : Task) (c : Config) (defect : Option MemoryFault) (m : Machine) (before board : Board) (held : List ℕ) (a b left h h' h'' : Option (List ℕ)) (was tape tape' : Option (List Touch))
-    → IsStart task c defect m before was tape → Appends h h' (opening_text task.form c) → WhereTold a b (Begins c) → Stops task m 1 (change b (prepend_known held left) h' h'' tape tape')
-    → JobGives status.WriteFault (outcomes task.form defect) before board (change a left h h'' was tape')
-stopped_job task c defect m before board held a b left h h' h'' was tape tape' start opening begins e = record {
-  text = opening_text task.form c ++ e.text;
-  written = AppendsFront-after h h' h'' (opening_text task.form c) e.text opening e.written;
-  defined = told_through a b held left _ begins e.run (λ x y z t r. inl (
-    r.0,
-    ap (λ (o : Outcome). o.text) (finished_is task c defect m before was tape x y t start) ∙ ap (λ (l : List ℕ). opening_text task.form c ++ l) r.1
-        ∙ sym (append_assoc (opening_text task.form c) e.text r.0),
-  ));
-}
-
--- a configuration that could not be written in full
-pub unopened_job : (c : Config) (defect : Option MemoryFault) (old new : Board) (held : List ℕ) (a left h h' : Option (List ℕ)) (was tape' : Option (List Touch)) → AppendsFront h h' (opening_text forms.Format c)
-    → WhereTold a (prepend_known held left) (Begins c) → JobGives status.WriteFault (outcomes forms.Format defect) old new (change a left h h' was tape')
-unopened_job c defect old new held a left h h' was tape' written begins = record {
-  text = opening_text forms.Format c;
-  written = written;
-  defined = told_behind a held left _ begins (λ x z t. inl (_, ap (λ (o : Outcome). o.text) (ap (outcome forms.Format Finished defect) t.taken ∙ t.is forms.Format Finished defect (held ++ z))));
-}
+    by : (e : End) → EndCaused e source source' → (source' ≡ source) ⊎ Rose source source'
+    by (end.Whole count) k = inl k
+    by (end.Refused line code at) k = inl k
+    by end.Broken k = inr k
 
 -- ---- the other ends
 
--- one text for a job that is refused or broken, where the board stays
-pub told_refused : (result how : Status) (text : List ℕ) (form : Form) (defect : Option MemoryFault) (before : Board) (held : List ℕ) (a left h h' : Option (List ℕ)) (tape : Option (List Touch)) (k k' : ℕ)
-    → Told result how text h h' k k' → WhereTold a (prepend_known held left) (λ x y. outcome form Finished defect x ≡ record { text = text; status = how; after = None })
-    → (Concluded (outcomes form defect) how before before (change a left h h' tape tape) → JobGives how (outcomes form defect) before before (change a left h h' tape tape))
-    → JobGives result (outcomes form defect) before before (change a left h h' tape tape)
-told_refused result how text form defect before held a left h h' tape k k' (inl t) is make =
-    subst (λ (s : Status). JobGives s (outcomes form defect) before before (change a left h h' tape tape)) (sym t.0)
-    (make (record { text = text; after = None; written = t.1.written; outcome = told_behind a held left _ is (λ x z r. r); board = (refl, refl) }))
-told_refused result how text form defect before held a left h h' tape k k' (inr t) is make =
-    subst (λ (s : Status). JobGives s (outcomes form defect) before before (change a left h h' tape tape)) (sym t.0)
-    (record { text = text; written = t.1.written; defined = told_behind a held left _ is (λ x z r. inl ([], ap (λ (o : Outcome). o.text) r ∙ sym (append-nil text))) })
-
--- the source failed before a configuration was found
-pub told_broken : (result : Status) (form : Form) (defect : Option MemoryFault) (before : Board) (held : List ℕ) (a left h h' : Option (List ℕ)) (tape : Option (List Touch)) (k k' : ℕ)
-    → Told result status.ReadFault read_fault_text h h' k k' → held ≡ [] → WhereTold a (prepend_known held left) HeadFails
-    → JobGives result (outcomes form defect) before before (change a left h h' tape tape)
-told_broken result form defect before held a left h h' tape k k' t none fails =
-    elim t [
-      | inl w ↦ subst (λ (s : Status). JobGives s (outcomes form defect) before before (change a left h h' tape tape)) (sym w.0)
-          (record { text = read_fault_text; after = None; written = w.1.written; outcome = taken; board = (refl, refl) })
-      | inr w ↦ subst (λ (s : Status). JobGives s (outcomes form defect) before before (change a left h h' tape tape)) (sym w.0)
-          (record { text = read_fault_text; written = w.1.written; defined = WhereTold-map a left taken (λ x z r. inr (r.front, r.taken, ap (λ (o : Outcome). o.text) r.is)) })
-    ]
+-- the sink failed in the text of some lines
+pub stopped_job : (form : Form) (c : Config) (task : Task) (defect : Option MemoryFault) (m : Machine) (before new : Board) (lines : List Line) (held : List ℕ) (a b left h h' hend : Option (List ℕ))
+    (was tape tape' : Option (List Touch)) (source source' : ℕ)
+    → IsTask form c task → IsBegun form c defect m before (outputs h h' was tape) → WhereTold a b (Begins c) → source' ≡ source
+    → AppendsFront h' hend (lines_text form task.shape m 1 lines)
+    → WhereTold b (prepend_known held left) (λ x y. BeginsWith task.shape 1 lines x)
+    → JobGives status.WriteFault (outcomes form defect) before new source source' (change a left h hend was tape')
+stopped_job form c task defect m before new lines held a b left h h' hend was tape tape' source source' t begun begins same written script =
+    let text = lines_text form c.shape m 1 lines in
+    record {
+      text = opening_text form c ++ text;
+      written = AppendsFront-after h h' hend (opening_text form c) text begun.written (subst (λ (s : Shape). AppendsFront h' hend (lines_text form s m 1 lines)) t.shape written);
+      defined = told_through a b held left _ begins (subst (λ (s : Shape). WhereTold b (prepend_known held left) (λ x y. BeginsWith s 1 lines x)) t.shape script)
+          (λ x y z u w. let f = fronts form c defect m before was tape x y u lines w.more begun.machine w.script in inl (same, f.0, f.1));
+    }
   where
-    taken : WhereTold a left (TakenGive (outcomes form defect) (record { text = read_fault_text; status = status.ReadFault; after = None }))
-    taken = told_behind a held left _ fails (λ x z f. record { front = f.front; taken = f.taken ∙ ap (λ (l : List ℕ). f.front ++ (l ++ z)) none; is = f.is form defect })
+    fronts : (form : Form) (c : Config) (defect : Option MemoryFault) (m : Machine) (before : Board) (was tape : Option (List Touch)) (x y : List ℕ) (u : Begins c x y) (lines : List Line) (more : Script)
+        → BeginsAs form c defect m before was tape → script_from c.shape Finished 1 (cut y) ≡ led_by lines more
+        → (rest : List ℕ) × ((outcome form Finished defect x).text ≡ (opening_text form c ++ lines_text form c.shape m 1 lines) ++ rest)
+    fronts form c defect m before was tape x y u lines more begin is =
+        let later = lines_text form c.shape (play_of form m lines).after (1 + length lines) more.lines in
+        let opening = opening_text form c in
+        let first = lines_text form c.shape m 1 lines in (
+          later ++ end_text form c more.end,
+          ap (λ (o : Outcome). o.text) (ap (outcome form Finished defect) u.taken ∙ begins_is form c defect m before was tape x y u Finished y _ begin is)
+              ∙ ap (λ (l : List ℕ). (opening ++ l) ++ end_text form c more.end) (lines_text-append form c.shape m 1 lines more.lines)
+              ∙ ap (λ (l : List ℕ). l ++ end_text form c more.end) (sym (append_assoc opening first later))
+              ∙ append_assoc (opening ++ first) later (end_text form c more.end),
+        )
 
--- a configuration with an empty script
-pub empty_job : (result : Status) (form : Form) (c : Config) (defect : Option MemoryFault) (old new : Board) (held : List ℕ) (a left h h' : Option (List ℕ)) (tape tape' : Option (List Touch)) (k k' : ℕ)
-    → EmptyGives result form c defect old new (change a left h h' tape tape') k k' → WhereTold a (prepend_known held left) (BeginsEmpty c)
-    → JobGives result (outcomes form defect) old new (change a left h h' tape tape')
-empty_job result form c defect old new held a left h h' tape tape' k k' (inl g) begins =
-    subst (λ (s : Status). JobGives s (outcomes form defect) old new (change a left h h' tape tape')) (sym g.0) (g.1, g.2, g.3)
-empty_job result form c defect old new held a left h h' was tape' k k' (inr (inl t, board)) begins =
-    subst (λ (s : Status). JobGives s (outcomes form defect) old new (change a left h h' was tape')) (sym t.0) (
-      record {
-        text = empty_text form c;
-        after = empty_after form c defect;
-        written = t.1.written;
-        outcome = told_behind a held left _ begins (λ x z b. b.is form defect);
-        board = board;
-      },
-      told_behind a held left _ begins (λ x z b. behind held z b.all),
-    )
-empty_job result form c defect old new held a left h h' was tape' k k' (inr (inr t, board)) begins =
-    subst (λ (s : Status). JobGives s (outcomes form defect) old new (change a left h h' was tape')) (sym t.0)
+-- what stands before the script could not be done
+pub failed_job : (result : Status) (form : Form) (c : Config) (behind : Follows) (defect : Option MemoryFault) (old new : Board) (held : List ℕ) (a left h h' : Option (List ℕ)) (was tape' : Option (List Touch)) (source sink sink' : ℕ)
+    → BeginFails result form c old new sink sink' (outputs h h' was tape') → WhereTold a (prepend_known held left) (FoundGives (found.Config c behind))
+    → JobGives result (outcomes form defect) old new source source (change a left h h' was tape')
+failed_job status.NoMemory form c behind defect old new held a left h h' was tape' source sink sink' fails begins = (fails.2, fails.0, fails.1)
+failed_job status.WriteFault form c behind defect old new held a left h h' was tape' source sink sink' fails begins =
+    record { text = opening_text form c; written = fails.2; defined = told_behind a held left _ begins (λ x z t. let f = by behind x (held ++ z) t in inl (refl, f.0, f.1)) }
+  where
+    rest : (m : Machine) (script : Script) → (more : List ℕ) × ((scripted form c m script).text ≡ opening_text form c ++ more)
+    rest m script = (_, append_assoc (opening_text form c) (lines_text form c.shape m 1 script.lines) (end_text form c script.end))
+
+    by : (lines : Follows) (x y : List ℕ) → FoundGives (found.Config c lines) x y → (more : List ℕ) × ((outcome form Finished defect x).text ≡ opening_text form c ++ more)
+    by follows.Lines x y t =
+        let r = rest (started c defect) (script_from c.shape Finished 1 (cut y)) in
+        (r.0, ap (λ (o : Outcome). o.text) (ap (outcome form Finished defect) t.taken ∙ t.is form Finished defect y) ∙ r.1)
+    by follows.Nothing x y t =
+        let r = rest (started c defect) (ended (end.Whole 0)) in
+        (r.0, ap (λ (o : Outcome). o.text) (t.is form defect) ∙ r.1)
+failed_job status.Done form c behind defect old new held a left h h' was tape' source sink sink' fails begins = absurd fails
+failed_job status.Usage form c behind defect old new held a left h h' was tape' source sink sink' fails begins = absurd fails
+failed_job (status.BadConfig code) form c behind defect old new held a left h h' was tape' source sink sink' fails begins = absurd fails
+failed_job (status.BadScript line code at) form c behind defect old new held a left h h' was tape' source sink sink' fails begins = absurd fails
+failed_job status.ReadFault form c behind defect old new held a left h h' was tape' source sink sink' fails begins = absurd fails
+
+pub failed_caused : (result : Status) (form : Form) (c : Config) (old new : Board) (source sink sink' : ℕ) (x : Change) → BeginFails result form c old new sink sink' x → StatusCaused result source source sink sink'
+failed_caused status.NoMemory form c old new source sink sink' x fails = (refl, fails.3)
+failed_caused status.WriteFault form c old new source sink sink' x fails = (fails.3, inl refl)
+failed_caused status.Done form c old new source sink sink' x fails = absurd fails
+failed_caused status.Usage form c old new source sink sink' x fails = absurd fails
+failed_caused (status.BadConfig code) form c old new source sink sink' x fails = absurd fails
+failed_caused (status.BadScript line code at) form c old new source sink sink' x fails = absurd fails
+failed_caused status.ReadFault form c old new source sink sink' x fails = absurd fails
+
+pub failed_board : (result : Status) (form : Form) (c : Config) (old new : Board) (sink sink' : ℕ) (x : Change) → BeginFails result form c old new sink sink' x → (new ≡ old) × (x.tape' ≡ x.tape)
+failed_board status.NoMemory form c old new sink sink' x fails = (fails.0, fails.1)
+failed_board status.WriteFault form c old new sink sink' x fails = (fails.0, fails.1)
+failed_board status.Done form c old new sink sink' x fails = absurd fails
+failed_board status.Usage form c old new sink sink' x fails = absurd fails
+failed_board (status.BadConfig code) form c old new sink sink' x fails = absurd fails
+failed_board (status.BadScript line code at) form c old new sink sink' x fails = absurd fails
+failed_board status.ReadFault form c old new sink sink' x fails = absurd fails
+
+-- the configuration is refused
+pub refused_job : (result : Status) (why : Refused) (form : Form) (defect : Option MemoryFault) (old : Board) (held : List ℕ) (a left h h' : Option (List ℕ)) (tape : Option (List Touch)) (source source' sink sink' : ℕ)
+    → Told result (status.BadConfig (rule_number why)) (bad_config_text why) h h' sink sink' → source' ≡ source → WhereTold a (prepend_known held left) (FoundGives (found.Refused why))
+    → JobGives result (outcomes form defect) old old source source' (change a left h h' tape tape)
+refused_job result why form defect old held a left h h' tape source source' sink sink' (inl t) same is =
+    subst (λ (s : Status). JobGives s (outcomes form defect) old old source source' (change a left h h' tape tape)) (sym t.0)
+    (record { outcome = bad_config why; status = refl; written = t.1.written; is = told_behind a held left _ is (λ x z r. r form defect); board = (refl, refl) })
+refused_job result why form defect old held a left h h' tape source source' sink sink' (inr t) same is =
+    subst (λ (s : Status). JobGives s (outcomes form defect) old old source source' (change a left h h' tape tape)) (sym t.0)
     (record {
-      text = empty_text form c;
+      text = bad_config_text why;
       written = t.1.written;
-      defined = told_behind a held left _ begins (λ x z b. inl ([], ap (λ (o : Outcome). o.text) (b.is form defect) ∙ sym (append-nil (empty_text form c))));
+      defined = told_behind a held left _ is (λ x z r. inl (same, [], ap (λ (o : Outcome). o.text) (r form defect) ∙ sym (append-nil (bad_config_text why))));
     })
 
-pub empty_caused : (result : Status) (form : Form) (c : Config) (defect : Option MemoryFault) (old new : Board) (left left' h h' : Option (List ℕ)) (tape tape' : Option (List Touch)) (source k k' : ℕ)
-    → EmptyGives result form c defect old new (change left left' h h' tape tape') k k' → StatusCaused result source source k k'
-empty_caused result form c defect old new left left' h h' before after source k k' (inl g) = subst (λ (s : Status). StatusCaused s source source k k') (sym g.0) (refl, g.4)
-empty_caused result form c defect old new left left' h h' before after source k k' (inr (inl t, board)) = subst (λ (s : Status). StatusCaused s source source k k') (sym t.0) (refl, t.1.same)
-empty_caused result form c defect old new left left' h h' before after source k k' (inr (inr t, board)) = subst (λ (s : Status). StatusCaused s source source k k') (sym t.0) t.1.cause
+-- the source failed before a configuration was found
+pub headless_job : (result : Status) (form : Form) (defect : Option MemoryFault) (old : Board) (held : List ℕ) (a left h h' : Option (List ℕ)) (tape : Option (List Touch)) (source source' sink sink' : ℕ)
+    → Told result status.ReadFault read_fault_text h h' sink sink' → held ≡ [] → Rose source source' → WhereTold a (prepend_known held left) HeadFails
+    → JobGives result (outcomes form defect) old old source source' (change a left h h' tape tape)
+headless_job result form defect old held a left h h' tape source source' sink sink' t none rose fails =
+    (elim t [
+      | inl w ↦ subst (λ (s : Status). JobGives s (outcomes form defect) old old source source' (change a left h h' tape tape)) (sym w.0)
+          (record { outcome = said read_fault_text status.ReadFault; status = refl; written = w.1.written; is = taken; board = (refl, refl) })
+      | inr w ↦ subst (λ (s : Status). JobGives s (outcomes form defect) old old source source' (change a left h h' tape tape)) (sym w.0)
+          (record { text = read_fault_text; written = w.1.written; defined = WhereTold-map a left taken (λ x z r. inr (rose, r.front, r.taken, ap (λ (o : Outcome). o.text) r.is)) })
+    ])
+  where
+    taken : WhereTold a left (TakenGive (outcomes form defect) (said read_fault_text status.ReadFault))
+    taken = told_behind a held left _ fails (λ x z f. record { front = f.front; taken = f.taken ∙ ap (λ (l : List ℕ). f.front ++ (l ++ z)) none; is = f.is form defect })
+
+pub told_unheld : (a b : Option (List ℕ)) (P : List ℕ → List ℕ → Type 0) → WhereTold (prepend_known [] a) b P → WhereTold a b P
+told_unheld None b P p = tt
+told_unheld (Some x) b P p = p
 
 -- ---- completeness
 
@@ -291,15 +370,15 @@ not-risen k k' stood rose = omega (arith, stood.0, stood.1, rose)
 
 -- an end other than Done is not what an accepted job gives
 other-end : (how : Status) (given : Outcomes) (old new : Board) (x : Change) (bytes : List ℕ) → x.left ≡ Some bytes → Concluded given how old new x → (given Finished bytes).status ≡ status.Done → how ≡ status.Done
-other-end how given old new x bytes e c done = sym (ap (λ (o : Outcome). o.status) (told-at x.left x.left' _ bytes e c.outcome).1) ∙ done
+other-end how given old new x bytes e c done = sym c.status ∙ sym (ap (λ (o : Outcome). o.status) (told-at x.left x.left' _ bytes e c.is).1) ∙ done
 
-pub completes : (result : Status) (command : Command) (defect : Option MemoryFault) (old new : Board) (x : Change) (k k' s s' : ℕ) → JobGives result (command_outcomes command defect) old new x
-    → StatusCaused result k k' s s' → Completes (Some command) result defect x.left k k' s s'
-completes status.Done command defect old new x k k' s s' gives cause source sink bytes e done = inl refl
-completes (status.BadConfig code) command defect old new x k k' s s' gives cause source sink bytes e done = inl (other-end (status.BadConfig code) (command_outcomes command defect) old new x bytes e gives done)
-completes (status.BadScript line code place) command defect old new x k k' s s' gives cause source sink bytes e done =
-    inl (other-end (status.BadScript line code place) (command_outcomes command defect) old new x bytes e gives done)
-completes status.ReadFault command defect old new x k k' s s' gives cause source sink bytes e done = absurd (not-risen k k' source cause.0)
-completes status.WriteFault command defect old new x k k' s s' gives cause source sink bytes e done = absurd (not-risen s s' sink cause)
-completes status.NoMemory command defect old new x k k' s s' gives cause source sink bytes e done = inr refl
-completes status.Usage command defect old new x k k' s s' gives cause source sink bytes e done = absurd gives
+pub completes : (result : Status) (form : Form) (defect : Option MemoryFault) (old new : Board) (source source' sink sink' : ℕ) (x : Change) → JobGives result (outcomes form defect) old new source source' x
+    → StatusCaused result source source' sink sink' → Completes (Some form) result defect x.left source source' sink sink'
+completes status.Done form defect old new k k' s s' x gives cause source sink bytes e done = inl refl
+completes (status.BadConfig code) form defect old new k k' s s' x gives cause source sink bytes e done = inl (other-end (status.BadConfig code) (outcomes form defect) old new x bytes e gives done)
+completes (status.BadScript line code at) form defect old new k k' s s' x gives cause source sink bytes e done =
+    inl (other-end (status.BadScript line code at) (outcomes form defect) old new x bytes e gives done)
+completes status.ReadFault form defect old new k k' s s' x gives cause source sink bytes e done = absurd (not-risen k k' source cause.0)
+completes status.WriteFault form defect old new k k' s s' x gives cause source sink bytes e done = absurd (not-risen s s' sink cause.0)
+completes status.NoMemory form defect old new k k' s s' x gives cause source sink bytes e done = inr refl
+completes status.Usage form defect old new k k' s s' x gives cause source sink bytes e done = absurd gives

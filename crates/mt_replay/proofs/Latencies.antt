@@ -1,6 +1,6 @@
 -- The requests of a replay are served in time.
-use Rattle.std.proofs.Common.{ℕ, ◌+◌, ◌≡◌, Bool, true, false, cond, List, [], ◌∷◌, ◌++◌, length, All, Option, Some, None, Result, Ok, Err, refl, sym, ap, ◌∙◌, arith, append_assoc, append-nil}
-use Rattle.std.specs.Prelude.{nat_lt, is_some, IfOk}
+use Rattle.std.proofs.Common.{ℕ, ◌+◌, ◌≡◌, Bool, true, false, cond, List, [], ◌∷◌, ◌++◌, length, All, Option, Some, None, Result, Ok, Err, refl, sym, ap, ◌∙◌, arith, append-nil}
+use Rattle.std.specs.Prelude.{nat_lt, nat_le, is_some, IfOk}
 use Rattle.std.proofs.lemmas.List.Elements.{All-push, All-cons, filter-append}
 use Rattle.mt_port.specs.declared.board.Shape.{Shape}
 use Rattle.mt_port.specs.declared.request.Request.{Request}
@@ -11,14 +11,12 @@ use Rattle.mt_text.specs.declared.line.Event.TheVariants as event
 use Rattle.mt_text.specs.declared.line.Line.{Line}
 use Rattle.mt_text.specs.declared.line.LineRefusal.{LineRefusal}
 use Rattle.mt_text.specs.Lines.{line_of}
-use Rattle.mt_text.specs.Trace.{entries_text}
 use Rattle.mt_text.specs.Accepted.{IsAccepted}
 use Rattle.mt_text.proofs.Parts.{ok_accepted}
 use Rattle.mt_window.specs.declared.reply.Reply.{Reply}
 use Rattle.mt_window.specs.declared.reply.Reply.TheVariants as replies
 use Rattle.mt_window.specs.declared.log.Entry.TheVariants.{Own}
 use Rattle.mt_window.specs.Events.{Running as Events, event as event_of, event_attempts}
-use Rattle.mt_window.specs.Slices.{Attempt}
 use Rattle.mt_window.specs.Waits.{IsFresh, is_service, services, IsShort, ServesInTime as CallServes}
 use Rattle.mt_conf.specs.declared.config.Config.{Config}
 use Rattle.mt_conf.specs.declared.config.ConfigRefusal.{ConfigRefusal}
@@ -29,11 +27,19 @@ use Rattle.mt_replay.specs.declared.event.FlsRunning.{FlsRunning}
 use Rattle.mt_replay.specs.declared.event.FlsRunning.TheVariants as fls_calls
 use Rattle.mt_ram.specs.Table.{MainFunction}
 use Rattle.mt_fls.specs.Table as fls_table
+use Rattle.mt_replay.specs.declared.form.Form.{Form}
 use Rattle.mt_replay.specs.declared.form.Form.TheVariants as forms
+use Rattle.mt_replay.specs.declared.refused.Refused.TheVariants as because
+use Rattle.mt_replay.specs.declared.run.End.{End}
+use Rattle.mt_replay.specs.declared.run.End.TheVariants as end
+use Rattle.mt_replay.specs.declared.status.Status.TheVariants as status
 use Rattle.mt_replay.specs.Input.{Ending, Finished, Failed, Cut, Job, Parted, Whole, job_of}
-use Rattle.mt_replay.specs.Machine.{Machine, Step, with_ram, with_fls, events_of, fls_events_of, begun, replied, on_board, running, by_service, running_call, service_of, by_fls_service, fls_running_call, fls_service_of, by_event, step, started}
-use Rattle.mt_replay.specs.Outcome.{Run, Reaction, played, stepped, refused, answered, run_lines}
-use Rattle.mt_replay.specs.Latency.{ServesInTime, stepping, steps_from, last_steps, line_steps, configured_steps, by_job_steps, RequestsAreServedInTime, steps_text, TracesAreOfSteps}
+use Rattle.mt_replay.specs.Machine.{Machine, with_ram, with_fls, events_of, fls_events_of, begun, replied, on_board, running, by_service, running_call, service_of, by_fls_service, fls_running_call, fls_service_of, by_event, step, started}
+use Rattle.mt_replay.specs.Script.{script_from}
+use Rattle.mt_replay.specs.Outcome.{played, play_of, said, read_fault_text, bad_config, refused_of, configured, by_job, outcome}
+use Rattle.mt_replay.specs.Latency.{ServesInTime}
+use Rattle.mt_replay.specs.Replay.{AreServedInTime}
+use Rattle.mt_replay.proofs.Taken.{AreTaken, lines-taken}
 
 -- what is known of the running calls
 pub record RunningCalls : Type 0 where
@@ -86,79 +92,45 @@ step-short : RunningCalls → (m : Machine) (line : Line) → AreOrdered line.re
 unfolding step
 step-short calls m line ordered = event-short calls m line.event line.requests.items ordered
 
+-- ---- a job
+
 All-none : All ServesInTime []
 All-none = λ k d h. absurd (omega (arith, h))
 
-stepping-short : RunningCalls → (shape : Shape) (m : Machine) (r : Result Line LineRefusal) (follow : Machine → List Step) → IfOk r (λ line. IsAccepted shape line) → ((after : Machine) → All ServesInTime (follow after))
-    → All ServesInTime (stepping m r follow)
-stepping-short calls shape m (Err e) follow ok h = All-none
-stepping-short calls shape m (Ok line) follow ok h = All-cons ServesInTime (step m line) (follow (step m line).after) (step-short calls m line ok.requests.ordered) (h (step m line).after)
+played-short : RunningCalls → (shape : Shape) (n : ℕ) (m : Machine) (lines : List Line) → AreTaken shape n lines → All ServesInTime (played m lines).steps
+played-short calls shape n m [] h = All-none
+played-short calls shape n m (line ∷ more) h =
+    All-cons ServesInTime (step m line) (played (step m line).after more).steps (step-short calls m line h.accepted.requests.ordered) (played-short calls shape (n + 1) (step m line).after more h.more)
 
-from-short : RunningCalls → (shape : Shape) (m : Machine) (n : ℕ) (line : List ℕ) (follow : Machine → List Step) → ((after : Machine) → All ServesInTime (follow after)) → All ServesInTime (steps_from shape m n line follow)
-from-short calls shape m n line follow h = of (nat_lt 1000000 n) (nat_lt 1024 (length line)) (stepping-short calls shape m (line_of shape line) follow (ok_accepted shape line _ refl) h)
+play-short : RunningCalls → (form : Form) (shape : Shape) (n : ℕ) (m : Machine) (lines : List Line) → AreTaken shape n lines → All ServesInTime (play_of form m lines).steps
+play-short calls forms.Run shape n m lines h = played-short calls shape n m lines h
+play-short calls forms.Check shape n m lines h = All-none
+play-short calls forms.Format shape n m lines h = All-none
+play-short calls (forms.Cut ask) shape n m lines h = All-none
+
+configured-short : RunningCalls → (form : Form) (ending : Ending) (defect : Option Fault) (r : Result Config ConfigRefusal) (script : Cut) → All ServesInTime (configured form ending defect r script).steps
+configured-short calls form ending defect (Err e) script = All-none
+configured-short calls form ending defect (Ok c) script =
+    play-short calls form c.shape 1 (started c defect) (script_from c.shape ending 1 script).lines (lines-taken c.shape ending 1 script.lines script.rest)
+
+job-short : RunningCalls → (form : Form) (ending : Ending) (defect : Option Fault) (job : Job) → All ServesInTime (by_job form ending defect job).steps
+job-short calls form ending defect (Parted config script) = of (nat_lt 65536 (length config))
   where
-    of : (late long : Bool) → All ServesInTime (stepping m (line_of shape line) follow) → All ServesInTime (cond late [] (cond long [] (stepping m (line_of shape line) follow)))
-    of true long all = All-none
-    of false true all = All-none
-    of false false all = all
-
-last-short : RunningCalls → (ending : Ending) (shape : Shape) (m : Machine) (n : ℕ) (rest : List ℕ) → All ServesInTime (last_steps ending shape m n rest)
-last-short calls Finished shape m n [] = All-none
-last-short calls Finished shape m n (byte ∷ bytes) = from-short calls shape m n (byte ∷ bytes) (λ after. []) (λ after. All-none)
-last-short calls Failed shape m n rest = All-none
-
-lines-short : RunningCalls → (ending : Ending) (shape : Shape) (m : Machine) (n : ℕ) (lines : List (List ℕ)) (rest : List ℕ) → All ServesInTime (line_steps ending shape m n lines rest)
-lines-short calls ending shape m n [] rest = last-short calls ending shape m n rest
-lines-short calls ending shape m n (line ∷ more) rest =
-    from-short calls shape m n line (λ after. line_steps ending shape after (n + 1) more rest) (λ after. lines-short calls ending shape after (n + 1) more rest)
-
-configured-short : RunningCalls → (ending : Ending) (defect : Option Fault) (r : Result Config ConfigRefusal) (script : Cut) → All ServesInTime (configured_steps ending defect r script)
-configured-short calls ending defect (Err e) script = All-none
-configured-short calls ending defect (Ok c) script = lines-short calls ending c.shape (started c defect) 1 script.lines script.rest
-
-pub requests_are_served_in_time : RunningCalls → (defect : Option Fault) → RequestsAreServedInTime defect
-requests_are_served_in_time calls defect ending bytes = of (job_of ending bytes)
+    of : (long : Bool) → All ServesInTime ((cond long (bad_config (because.Rule 18)) (configured form ending defect (config_of config) script)).steps)
+    of true = All-none
+    of false = configured-short calls form ending defect (config_of config) script
+job-short calls form Finished defect (Whole bytes) = of (nat_lt 65536 (length bytes))
   where
-    of : (job : Job) → All ServesInTime (by_job_steps ending defect job)
-    of (Parted config script) = configured-short calls ending defect (config_of config) script
-    of (Whole bytes) = All-none
-
--- ---- the text
-
-abbrev Begins : List ℕ → List ℕ → Type 0
-Begins text front = (end : List ℕ) × (text ≡ front ++ end)
-
-stepping-text : (shape : Shape) (m : Machine) (n : ℕ) (r : Result Line LineRefusal) (follow : Machine → Run) (steps : Machine → List Step)
-    → ((after : Machine) → Begins (follow after).text (steps_text shape (n + 1) (steps after)))
-    → Begins (answered (record { form = forms.Run; shape = shape }) m n r follow).text (steps_text shape n (stepping m r steps))
-stepping-text shape m n (Err e) follow steps h = (_, refl)
-stepping-text shape m n (Ok line) follow steps h =
-    let s = step m line in
-    ((h s.after).0, ap (λ (t : List ℕ). entries_text shape.width n s.entries ++ t) (h s.after).1 ∙ sym (append_assoc (entries_text shape.width n s.entries) (steps_text shape (n + 1) (steps s.after)) (h s.after).0))
-
-from-text : (shape : Shape) (m : Machine) (n : ℕ) (line : List ℕ) (follow : Machine → Run) (steps : Machine → List Step)
-    → ((after : Machine) → Begins (follow after).text (steps_text shape (n + 1) (steps after)))
-    → Begins (Rattle.mt_replay.specs.Outcome.judged (record { form = forms.Run; shape = shape }) m n line follow).text (steps_text shape n (steps_from shape m n line steps))
-from-text shape m n line follow steps h = of (nat_lt 1000000 n) (nat_lt 1024 (length line)) (stepping-text shape m n (line_of shape line) follow steps h)
+    of : (long : Bool) → All ServesInTime ((cond long (bad_config (because.Rule 18)) (bad_config (because.Rule 19))).steps)
+    of true = All-none
+    of false = All-none
+job-short calls form Failed defect (Whole bytes) = of (nat_le 65542 (length bytes))
   where
-    of : (late long : Bool) → Begins (answered (record { form = forms.Run; shape = shape }) m n (line_of shape line) follow).text (steps_text shape n (stepping m (line_of shape line) steps))
-        → Begins ((cond late (refused m n 11 1) (cond long (refused m n 10 1025) (answered (record { form = forms.Run; shape = shape }) m n (line_of shape line) follow))).text)
-        (steps_text shape n (cond late [] (cond long [] (stepping m (line_of shape line) steps))))
-    of true long all = (_, refl)
-    of false true all = (_, refl)
-    of false false all = all
+    of : (long : Bool) → All ServesInTime ((cond long (bad_config (because.Rule 18)) (said read_fault_text status.ReadFault)).steps)
+    of true = All-none
+    of false = All-none
 
-last-text : (ending : Ending) (shape : Shape) (m : Machine) (n : ℕ) (rest : List ℕ)
-    → Begins (Rattle.mt_replay.specs.Outcome.last_judged (record { form = forms.Run; shape = shape }) ending m n rest).text (steps_text shape n (last_steps ending shape m n rest))
-last-text Finished shape m n [] = (_, refl)
-last-text Finished shape m n (byte ∷ bytes) = from-text shape m n (byte ∷ bytes) _ (λ after. []) (λ after. (_, refl))
-last-text Failed shape m n rest = (_, refl)
-
-lines-text : (ending : Ending) (shape : Shape) (m : Machine) (n : ℕ) (lines : List (List ℕ)) (rest : List ℕ)
-    → Begins (run_lines (record { form = forms.Run; shape = shape }) ending m n lines rest).text (steps_text shape n (line_steps ending shape m n lines rest))
-lines-text ending shape m n [] rest = last-text ending shape m n rest
-lines-text ending shape m n (line ∷ more) rest =
-    from-text shape m n line _ (λ after. line_steps ending shape after (n + 1) more rest) (λ after. lines-text ending shape after (n + 1) more rest)
-
-pub traces_are_of_steps : TracesAreOfSteps
-traces_are_of_steps shape ending m n script = lines-text ending shape m n script.lines script.rest
+pub are_served_in_time : RunningCalls → (form : Option Form) (defect : Option Fault) → AreServedInTime form defect
+unfolding outcome
+are_served_in_time calls None defect = tt
+are_served_in_time calls (Some form) defect = λ ending bytes. job-short calls form ending defect (job_of ending bytes)

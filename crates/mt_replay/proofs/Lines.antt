@@ -4,7 +4,8 @@ use Rattle.std.proofs.lemmas.Bool.Decides.{eqb_tells}
 use Rattle.std.specs.Io.KnownBytes.{prepend_known}
 use Rattle.mt_port.specs.Streams.{WhereTold}
 use Rattle.mt_port.proofs.StreamLemmas.{WhereTold-then}
-use Rattle.mt_replay.specs.Input.{Cut, cut, led, begun, HasNoFeed, BeginsTooLong, TakesLine, BreaksOff}
+use Rattle.mt_replay.specs.Input.{Cut, cut, led, begun}
+use Rattle.mt_replay.specs.Inner.Reading.{HasNoFeed, BeginsTooLong, TakesLine, BreaksOff}
 use Rattle.mt_replay.specs.declared.input.Line.TheVariants as line
 use Rattle.mt_replay.proofs.Feeds.{HasNoFeed-append}
 

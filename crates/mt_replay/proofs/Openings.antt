@@ -1,5 +1,5 @@
 -- The canonical text of a configuration is whole lines, none of which is a separator.
-use Rattle.std.proofs.Common.{ℕ, ◌≡◌, Bool, true, false, cond, List, [], ◌∷◌, ◌++◌, refl, sym, ap, ◌∙◌, append_assoc, append-nil, codes}
+use Rattle.std.proofs.Common.{ℕ, ◌≡◌, ◌==◌, Bool, true, false, cond, List, [], ◌∷◌, ◌++◌, refl, sym, ap, ◌∙◌, append_assoc, append-nil, codes}
 use Rattle.std.specs.Prelude.{flat_map}
 use Rattle.std.specs.Str.{bytes_eq}
 use Rattle.std.specs.Fmt.{decimal}
@@ -20,9 +20,9 @@ use Rattle.mt_blocks.specs.declared.config.Block.{Block}
 use Rattle.mt_blocks.specs.declared.config.FlashBlock.{FlashBlock}
 use Rattle.mt_blocks.specs.declared.config.ParamSet.{ParamSet}
 use Rattle.mt_blocks.specs.declared.config.FlsConfig.{FlsConfig}
-use Rattle.mt_text.specs.Digits.{word_text}
+use Rattle.mt_hex.specs.Digits.{word_text}
 use Rattle.mt_conf.specs.declared.config.Config.{Config}
-use Rattle.mt_conf.specs.Canonical.{entry, number_entry, text_entry, header, policy_name, algorithm_entries, block_text, set_text, flash_block_text, fls_text, top_text, config_text}
+use Rattle.mt_conf.specs.Canonical.{entry, number_entry, text_entry, header, policy_name, algorithm_entries, block_text, retries_entry, set_text, flash_block_text, fls_text, top_text, config_text}
 use Rattle.mt_replay.specs.Input.{Ending, Finished, cut, separator, Parted, preceded_by, job_of}
 use Rattle.mt_replay.proofs.Heads.{preceded_by-nil, preceded_by-again, job-separator, job-line}
 use Rattle.mt_replay.proofs.Feedless.{feedless, no_feed, feedless-append, decimal_feedless, word_feedless, AreFeedless}
@@ -151,16 +151,25 @@ block_lines width b =
     (text_lines (codes "policy") (policy_name b.policy) (record { feeds = refl; apart = λ value. refl }) (policy_feedless b.policy)))
     (text_lines (codes "fill") (word_text width b.fill) (record { feeds = refl; apart = λ value. refl }) (word_feedless width b.fill))
 
-set_lines : (width : Width) (set : ParamSet) → IsLines (set_text width set)
+retries_lines : (version retries : ℕ) → IsLines (retries_entry version retries)
+retries_lines version retries = of (version == 2)
+  where
+    of : (second : Bool) → IsLines (cond second (number_entry (codes "retries") retries) [])
+    of true = number_lines (codes "retries") retries (record { feeds = refl; apart = λ value. refl })
+    of false = no_lines
+
+set_lines : (version : ℕ) (width : Width) (set : ParamSet) → IsLines (set_text version width set)
 unfolding set_text
-set_lines width set =
+set_lines version width set =
     lines_then _ _
+    (lines_then _ _
     (lines_then _ _
     (lines_then _ _
     (lines_then _ _ (lines_then _ _ (header_lines (codes "[[set]]") refl refl) (algorithm_lines set.alg))
     (text_lines (codes "background") (word_text width set.background) (record { feeds = refl; apart = λ value. refl }) (word_feedless width set.background)))
     (number_lines (codes "atomic") set.atomic is_atomic))
     (number_lines (codes "cells") set.cells is_cells))
+    (retries_lines version set.retries))
     (each_lines (block_text width) (block_lines width) set.blocks)
 
 flash_block_lines : (name : List ℕ) → IsLines (header name) → (b : FlashBlock) → IsLines (flash_block_text name b)
@@ -189,7 +198,7 @@ top_lines c =
     lines_then _ _
     (lines_then _ _
     (lines_then _ _
-    (lines_then _ _ (number_lines (codes "version") 1 (record { feeds = refl; apart = λ value. refl }))
+    (lines_then _ _ (number_lines (codes "version") c.version (record { feeds = refl; apart = λ value. refl }))
     (number_lines (codes "width") (width_bits c.shape.width) (record { feeds = refl; apart = λ value. refl })))
     (number_lines (codes "ram") c.shape.ram (record { feeds = refl; apart = λ value. refl })))
     (number_lines (codes "flash") c.shape.flash (record { feeds = refl; apart = λ value. refl })))
@@ -197,7 +206,7 @@ top_lines c =
 
 config_lines : (c : Config) → IsLines (config_text c)
 unfolding config_text
-config_lines c = lines_then _ _ (lines_then _ _ (top_lines c) (each_lines (set_text c.shape.width) (set_lines c.shape.width) c.ram_tst.sets)) (fls_lines c.fls_tst)
+config_lines c = lines_then _ _ (lines_then _ _ (top_lines c) (each_lines (set_text c.version c.shape.width) (set_lines c.version c.shape.width) c.ram_tst.sets)) (fls_lines c.fls_tst)
 
 -- the job of a canonical configuration, its separator and a script
 pub opening_parts : (c : Config) (rest : List ℕ) → job_of Finished ((config_text c ++ codes "=====\n") ++ rest) ≡ Parted (config_text c) (cut rest)

@@ -48,6 +48,9 @@ pub record Machine : Type 0 where
   pub board : Board
   pub modules : Modules
 
+abbrev pub machine : Board → Modules → Machine
+machine board modules = record { board = board; modules = modules }
+
 -- what a line makes of the machine, what it enters in the trace, the test accesses that it makes and how many they are, its attempts
 -- at slices, and the requests that are served in it
 pub record Step : Type 0 where

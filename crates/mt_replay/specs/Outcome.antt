@@ -1,18 +1,13 @@
 -- What a job gives: the text that is written, how it ends, and what is left of the board.
-use Rattle.std.specs.Prelude.{ℕ, ◌+◌, ◌-◌, List, [], ◌∷◌, ◌++◌, length, codes, Option, Some, None, Result, Ok, Err, nat_lt, nat_le, if◌then◌else◌}
+use Rattle.std.specs.Prelude.{ℕ, ◌+◌, List, [], ◌∷◌, ◌++◌, length, codes, flat_map, slice_get, Option, Some, None, Result, Ok, Err, nat_lt, nat_le, if◌then◌else◌}
 use Rattle.std.specs.Fmt.{decimal}
+use Rattle.mt_port.specs.declared.board.Shape.{Shape}
 use Rattle.mt_port.specs.declared.board.Touch.{Touch}
 use Rattle.mt_port.specs.Board.{Board}
 use Rattle.mt_fault.specs.declared.fault.Fault.{Fault}
 use Rattle.mt_text.specs.declared.line.Line.{Line}
-use Rattle.mt_text.specs.declared.line.LineRefusal.{LineRefusal}
-use Rattle.mt_text.specs.Lines.{line_of}
-use Rattle.mt_text.specs.TokenRules.{kind_number}
 use Rattle.mt_text.specs.Trace.{entries_text}
 use Rattle.mt_text.specs.Canonical.{canonical}
-use Rattle.mt_port.specs.declared.board.Shape.{Shape}
-use Rattle.mt_replay.specs.declared.status.Status.{Status}
-use Rattle.mt_replay.specs.declared.status.Status.TheVariants as status
 use Rattle.mt_march.specs.Reading.{march_number}
 use Rattle.mt_conf.specs.declared.config.Config.{Config}
 use Rattle.mt_conf.specs.declared.config.ConfigRefusal.{ConfigRefusal}
@@ -21,48 +16,29 @@ use Rattle.mt_conf.specs.Outcome.{outcome as config_of, number_of}
 use Rattle.mt_conf.specs.Canonical.{config_text}
 use Rattle.mt_replay.specs.declared.form.Form.{Form}
 use Rattle.mt_replay.specs.declared.form.Form.TheVariants as forms
-use Rattle.mt_replay.specs.declared.form.Task.{Task}
 use Rattle.mt_replay.specs.declared.refused.Refused.{Refused}
 use Rattle.mt_replay.specs.declared.refused.Refused.TheVariants as because
+use Rattle.mt_replay.specs.declared.run.End.{End}
+use Rattle.mt_replay.specs.declared.run.End.TheVariants as end
+use Rattle.mt_replay.specs.declared.status.Status.{Status}
+use Rattle.mt_replay.specs.declared.status.Status.TheVariants as status
 use Rattle.mt_replay.specs.Input.{Ending, Finished, Failed, Cut, Job, Parted, Whole, job_of}
 use Rattle.mt_replay.specs.Machine.{Machine, Step, step, started}
+use Rattle.mt_replay.specs.Script.{Script, script_from}
+use Rattle.mt_replay.specs.Cut.{chosen_text}
 
--- how a script ends: its text, its test accesses, its status, and the board after it
-pub record Run : Type 0 where
-  pub text : List ℕ
-  pub touches : List Touch
-  pub status : Status
-  pub board : Board
-
--- a text alone, and a status
-abbrev pub closed : Machine → List ℕ → Status → Run
-closed m text status = record { text = text; touches = []; status = status; board = m.board }
+-- ---- lines of text
 
 -- the closing line after so many lines
 abbrev pub done_text : ℕ → List ℕ
 done_text count = codes "end ok " ++ decimal count ++ codes "\n"
 
--- what is written behind a whole script; canonical text has no closing line
-abbrev pub closing_text : Form → ℕ → List ℕ
-closing_text forms.Run count = done_text count
-closing_text forms.Check count = done_text count
-closing_text forms.Format count = []
-
-abbrev pub done : Task → Machine → ℕ → Run
-done task m count = closed m (closing_text task.form count) status.Done
-
 -- the text of a refused line
 abbrev pub refused_text : (line code place : ℕ) → List ℕ
 refused_text line code place = codes "bad line " ++ decimal line ++ codes " " ++ decimal code ++ codes " " ++ decimal place ++ codes "\n"
 
-abbrev pub refused : Machine → (line code place : ℕ) → Run
-refused m line code place = closed m (refused_text line code place) (status.BadScript line code place)
-
 abbrev pub read_fault_text : List ℕ
 read_fault_text = codes "read fault\n"
-
-abbrev pub read_fault : Machine → Run
-read_fault m = closed m read_fault_text status.ReadFault
 
 -- why a configuration is refused, as it is told
 abbrev pub refused_of : ConfigRefusal → Refused
@@ -78,57 +54,78 @@ abbrev pub bad_config_text : Refused → List ℕ
 bad_config_text (because.Rule code) = codes "bad config " ++ decimal code ++ codes "\n"
 bad_config_text (because.March set kind place) = codes "bad config 11 " ++ decimal set ++ codes " " ++ decimal kind ++ codes " " ++ decimal place ++ codes "\n"
 
--- a text and test accesses in front
-abbrev pub preceded : List ℕ → List Touch → Run → Run
-preceded text touches run = record { text = text ++ run.text; touches = touches ++ run.touches; status = run.status; board = run.board }
+-- ---- a replay
 
--- what is made of an accepted line: a text, test accesses, and the machine after it
-pub record Reaction : Type 0 where
-  pub text : List ℕ
-  pub touches : List Touch
+-- what the machine makes of some lines, one step a line, and the machine after them
+pub record Play : Type 0 where
+  pub steps : List Step
   pub after : Machine
 
--- a replay does what it asks for, and writes its entries
-abbrev pub played : Shape → ℕ → Step → Reaction
-played shape number s = record { text = entries_text shape.width number s.entries; touches = s.touches; after = s.after }
+abbrev pub stepped : Step → Play → Play
+stepped s more = record { steps = s ∷ more.steps; after = more.after }
 
--- a check does nothing, and canonical form is the line's canonical text
-abbrev pub reaction : Form → Shape → Machine → ℕ → Line → Reaction
-reaction forms.Run shape m number line = played shape number (step m line)
-reaction forms.Check shape m number line = record { text = []; touches = []; after = m }
-reaction forms.Format shape m number line = record { text = canonical shape.width line ++ codes "\n"; touches = []; after = m }
+abbrev pub played : Machine → List Line → Play
+played m [] = record { steps = []; after = m }
+played m (line ∷ more) = stepped (step m line) (played (step m line).after more)
 
--- that, and then what follows
-abbrev pub stepped : Reaction → (Machine → Run) → Run
-stepped r follow = preceded r.text r.touches (follow r.after)
+-- the trace lines of steps, the first of which has this number, and all their accesses
+abbrev pub steps_text : Shape → ℕ → List Step → List ℕ
+steps_text shape number [] = []
+steps_text shape number (s ∷ more) = entries_text shape.width number s.entries ++ steps_text shape (number + 1) more
 
-abbrev pub answered : Task → Machine → ℕ → Result Line LineRefusal → (Machine → Run) → Run
-answered task m number (Err refusal) follow = refused m number (kind_number refusal.kind) refusal.place
-answered task m number (Ok line) follow = stepped (reaction task.form task.shape m number line) follow
+abbrev pub steps_touches : List Step → List Touch
+steps_touches steps = flat_map (λ s. s.touches) steps
 
--- a line: beyond the last that may be, too long, refused, or answered
-abbrev pub judged : Task → Machine → ℕ → List ℕ → (Machine → Run) → Run
-judged task m number line follow =
-    if nat_lt 1000000 number then refused m number 11 1
-    else (if nat_lt 1024 (length line) then refused m number 10 1025 else answered task m number (line_of task.shape line) follow)
+-- ---- the forms
 
--- A last line without a line feed counts where it has a byte. Before a failure of the source it is judged only where it is refused whatever comes.
-abbrev pub last_judged : Task → Ending → Machine → ℕ → List ℕ → Run
-last_judged task Finished m number [] = done task m (number - 1)
-last_judged task Finished m number (byte ∷ bytes) = judged task m number (byte ∷ bytes) (λ after. done task after number)
-last_judged task Failed m number [] = read_fault m
-last_judged task Failed m number (byte ∷ bytes) =
-    if nat_lt 1000000 number then refused m number 11 1
-    else (if nat_lt 1024 (length (byte ∷ bytes)) then refused m number 10 1025 else read_fault m)
+-- a replay does what the lines ask for; the other forms leave the machine
+abbrev pub play_of : Form → Machine → List Line → Play
+play_of forms.Run m lines = played m lines
+play_of forms.Check m lines = record { steps = []; after = m }
+play_of forms.Format m lines = record { steps = []; after = m }
+play_of forms.Migrate m lines = record { steps = []; after = m }
+play_of (forms.Cut ask) m lines = record { steps = []; after = m }
 
--- the lines from a number on, in order; a refused line ends the run
-abbrev pub run_lines : Task → Ending → Machine → ℕ → List (List ℕ) → List ℕ → Run
-run_lines task ending m number [] rest = last_judged task ending m number rest
-run_lines task ending m number (line ∷ more) rest = judged task m number line (λ after. run_lines task ending after (number + 1) more rest)
+-- what is written for lines, the first of which has this number: a replay's trace; their canonical text; or nothing
+abbrev pub canonical_lines : Shape → List Line → List ℕ
+canonical_lines shape lines = flat_map (λ line. canonical shape.width line ++ codes "\n") lines
 
--- the script that some bytes are
-abbrev pub run_script : Task → Ending → Machine → ℕ → Cut → Run
-run_script task ending m number script = run_lines task ending m number script.lines script.rest
+abbrev pub lines_text : Form → Shape → Machine → ℕ → List Line → List ℕ
+lines_text forms.Run shape m number lines = steps_text shape number (played m lines).steps
+lines_text forms.Check shape m number lines = []
+lines_text forms.Format shape m number lines = canonical_lines shape lines
+lines_text forms.Migrate shape m number lines = canonical_lines shape lines
+lines_text (forms.Cut ask) shape m number lines = []
+
+-- the same configuration in version 2
+abbrev pub migrated : Config → Config
+migrated config = record config { version = 2 }
+
+-- what stands before them: canonical form begins with the configuration, and `migrate` writes it in version 2
+abbrev pub opening_text : Form → Config → List ℕ
+opening_text forms.Run config = []
+opening_text forms.Check config = []
+opening_text forms.Format config = config_text config ++ codes "=====\n"
+opening_text forms.Migrate config = config_text (migrated config) ++ codes "=====\n"
+opening_text (forms.Cut ask) config = []
+
+-- what stands behind a whole script: the closing line; nothing in canonical form; or what is told of the set that is asked for
+abbrev pub closing_text : Form → Config → ℕ → List ℕ
+closing_text forms.Run config count = done_text count
+closing_text forms.Check config count = done_text count
+closing_text forms.Format config count = []
+closing_text forms.Migrate config count = []
+closing_text (forms.Cut ask) config count = chosen_text ask (slice_get config.ram_tst.sets ask.set)
+
+abbrev pub end_text : Form → Config → End → List ℕ
+end_text form config (end.Whole count) = closing_text form config count
+end_text form config (end.Refused line code place) = refused_text line code place
+end_text form config end.Broken = read_fault_text
+
+abbrev pub end_status : End → Status
+end_status (end.Whole count) = status.Done
+end_status (end.Refused line code place) = status.BadScript line code place
+end_status end.Broken = status.ReadFault
 
 -- ---- a whole job
 
@@ -137,44 +134,47 @@ pub record After : Type 0 where
   pub board : Board
   pub touches : List Touch
 
--- what a job gives; where no script was begun, the board stays
+-- what a job gives, and the steps of its replay; where nothing was replayed, the board stays
 pub record Outcome : Type 0 where
   pub text : List ℕ
   pub status : Status
+  pub steps : List Step
   pub after : Option After
 
--- the text of the configuration in canonical form, which comes first
-abbrev pub opening_text : Form → Config → List ℕ
-opening_text forms.Run config = []
-opening_text forms.Check config = []
-opening_text forms.Format config = config_text config ++ codes "=====\n"
-
 -- only a replay uses the board
-abbrev pub board_after : Form → Run → Option After
-board_after forms.Run run = Some (record { board = run.board; touches = run.touches })
-board_after forms.Check run = None
-board_after forms.Format run = None
+abbrev pub after_of : Form → Play → Option After
+after_of forms.Run play = Some (record { board = play.after.board; touches = steps_touches play.steps })
+after_of forms.Check play = None
+after_of forms.Format play = None
+after_of forms.Migrate play = None
+after_of (forms.Cut ask) play = None
 
-abbrev pub ran : Form → List ℕ → Run → Outcome
-ran form opening run = record { text = opening ++ run.text; status = run.status; after = board_after form run }
+-- a text alone, and a status
+abbrev pub said : List ℕ → Status → Outcome
+said text how = record { text = text; status = how; steps = []; after = None }
 
 abbrev pub bad_config : Refused → Outcome
-bad_config why = record { text = bad_config_text why; status = status.BadConfig (rule_number why); after = None }
+bad_config why = said (bad_config_text why) (status.BadConfig (rule_number why))
 
 -- the script of an accepted configuration, where the machine begins so
-abbrev pub scripted : Form → Config → Ending → Machine → Cut → Outcome
-scripted form config ending m script = ran form (opening_text form config) (run_script (record { form = form; shape = config.shape }) ending m 1 script)
+abbrev pub scripted : Form → Config → Machine → Script → Outcome
+scripted form config m script = record {
+  text = opening_text form config ++ lines_text form config.shape m 1 script.lines ++ end_text form config script.end;
+  status = end_status script.end;
+  steps = (play_of form m script.lines).steps;
+  after = after_of form (play_of form m script.lines);
+}
 
 -- the configuration decides, and then the script
 abbrev pub configured : Form → Ending → Option Fault → Result Config ConfigRefusal → Cut → Outcome
 configured form ending defect (Err refusal) script = bad_config (refused_of refusal)
-configured form ending defect (Ok config) script = scripted form config ending (started config defect) script
+configured form ending defect (Ok config) script = scripted form config (started config defect) (script_from config.shape ending 1 script)
 
 -- a configuration that is too long is refused first; then one without a separator, where the input ended; where the source failed, that is told
 abbrev pub by_job : Form → Ending → Option Fault → Job → Outcome
 by_job form ending defect (Parted config script) = if nat_lt 65536 (length config) then bad_config (because.Rule 18) else configured form ending defect (config_of config) script
 by_job form Finished defect (Whole bytes) = if nat_lt 65536 (length bytes) then bad_config (because.Rule 18) else bad_config (because.Rule 19)
-by_job form Failed defect (Whole bytes) = if nat_le 65542 (length bytes) then bad_config (because.Rule 18) else record { text = read_fault_text; status = status.ReadFault; after = None }
+by_job form Failed defect (Whole bytes) = if nat_le 65542 (length bytes) then bad_config (because.Rule 18) else said read_fault_text status.ReadFault
 
 -- what some bytes give in a form, on a board with a defect or none
 unfoldable pub outcome : Form → Ending → Option Fault → List ℕ → Outcome

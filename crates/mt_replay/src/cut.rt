@@ -6,17 +6,15 @@ ghost use Rattle.mt_port.specs.Causes.{HasCause};
 ghost use Rattle.mt_port.specs.Streams.{AppendsFront};
 ghost use Rattle.mt_cut.specs.Holds.{IsOfAccepted, pass_holds};
 ghost use Rattle.mt_cut.specs.Cuts.{first_above, longest_runs};
-ghost use Rattle.mt_replay.specs.Replay.{Told};
 ghost use Rattle.mt_replay.specs.Cut.{tick_text, count_text, ticks_text, no_cut_text, pass_text, largest_text, set_text, chosen_text};
 
 use crate::form::Ask;
-use crate::status::Status;
 use crate::text::Text;
 use arrayvec::ArrayVec;
 use mt_blocks::{List, ParamSet};
 use mt_cut::{Above, Run, first_above, largest_atomic, pass_start, run_from};
 use mt_port::{Failed, Sink, put};
-use mt_text::{push_bytes, push_number};
+use mt_hex::{push_bytes, push_number};
 use std::alloc::{AllocError, Global};
 
 // The line of a tick.
@@ -121,17 +119,15 @@ fn write_set<K: Sink>(sink: &mut K, set: &ParamSet, ask: Ask) -> Result<(), Fail
 }
 
 /// Writes what is told of the set that is asked for, or that there is none.
-pub fn tell_chosen<K: Sink>(sink: &mut K, set: &Option<ParamSet>, ask: Ask) -> Status
+pub fn write_chosen<K: Sink>(sink: &mut K, set: &Option<ParamSet>, ask: Ask) -> Result<(), Failed>
     requires { IfSome set.now IsOfAccepted }
-    ensures { Told result Status.Done (chosen_text ask set.now) (K.held sink.old) (K.held sink.new) (K.faults sink.old) (K.faults sink.new) }
+    ensures ok { OnOk result (Appends (K.held sink.old) (K.held sink.new) (chosen_text ask set.now)) }
+    ensures err { OnErr result (AppendsFront (K.held sink.old) (K.held sink.new) (chosen_text ask set.now)) }
+    ensures cause { HasCause (K.faults sink.old) (K.faults sink.new) result }
 {
-    let written = match set {
+    match set {
         Some(set) => write_set(sink, set, ask),
         None => put(sink, b"no set\n"),
-    };
-    match written {
-        Ok(()) => Status::Done,
-        Err(_) => Status::WriteFault,
     }
 }
 

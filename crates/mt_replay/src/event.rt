@@ -10,8 +10,8 @@ ghost use Rattle.mt_window.specs.Serving.{given, scene, IsReady as IsReadyToServ
 ghost use Rattle.mt_window.specs.Events.{event as event_of, event_touches};
 ghost use Rattle.mt_ram.specs.Table.{reply_to, after};
 ghost use Rattle.mt_fls.specs.Table as fls_table;
-ghost use Rattle.mt_replay.specs.Machine.{Machine, IsReady, events_of, running_call, service_of, by_ram, running_ram, fls_events_of, fls_running_call, fls_service_of, by_fls, running_fls};
-ghost use Rattle.mt_replay.specs.Events.{AnswerGives, AreReady, Does, Injects};
+ghost use Rattle.mt_replay.specs.Machine.{machine, IsReady, events_of, running_call, service_of, by_ram, running_ram, fls_events_of, fls_running_call, fls_service_of, by_fls, running_fls};
+ghost use Rattle.mt_replay.specs.Inner.Events.{AnswerGives, AreReady, Does, Injects};
 
 use crate::modules::Modules;
 use arrayvec::ArrayVec;
@@ -21,6 +21,7 @@ use mt_port::{Answer, Bench, Request};
 use mt_ram::Ram;
 use mt_text::{Event, FlsCall, Line, RamCall};
 use mt_window::{EventLog, Reply, Value};
+use std::mem;
 
 /// The calls of RamTst that run tests.
 #[derive(Clone, Copy, Debug, PartialEq, Eq)]
@@ -37,8 +38,12 @@ pub enum FlsRunning {
     Foreground(u32),
 }
 
-// The requests of an event, as they are handed to it.
-type Requests = ArrayVec<Request, 16>;
+// The requests of a line, which a running event takes.
+fn take_requests(line: &mut Line) -> ArrayVec<Request, 16>
+    ensures { result ≡ line.old.requests }
+{
+    mem::replace(&mut line.requests, ArrayVec::new())
+}
 
 // The reply to an operation of the application.
 fn reply_of(answer: Answer) -> Reply
@@ -104,16 +109,16 @@ fn run<B: Bench>(
     modules: &mut Modules,
     board: &mut B,
     call: Running,
-    requests: Requests,
+    line: &mut Line,
     log: &mut EventLog,
 ) -> Reply
-    requires ready { IsReady (B.state board.old).shape (record { board = B.state board.old; modules = modules.old }) }
+    requires ready { IsReady (B.state board.old).shape (machine (B.state board.old) modules.old) }
     requires empty { log.old ≡ [] }
-    requires requests { AreReady RamTst (B.state board.old).shape requests.items }
-    ensures does { Does (running_ram call (record { board = B.state board.old; modules = modules.old }) requests.items) (record { board = B.state board.new; modules = modules.new }) result log.new (B.tape board.old) (B.tape board.new) }
-    ensures ready { IsReady (B.state board.old).shape (record { board = B.state board.new; modules = modules.new }) }
+    requires requests { AreReady RamTst (B.state board.old).shape line.old.requests.items }
+    ensures does { Does (running_ram call (machine (B.state board.old) modules.old) line.old.requests.items) (machine (B.state board.new) modules.new) result log.new (B.tape board.old) (B.tape board.new) }
+    ensures ready { IsReady (B.state board.old).shape (machine (B.state board.new) modules.new) }
 {
-    board.begin_event(requests);
+    board.begin_event(take_requests(line));
     let reply = make(&mut modules.ram, board, call, log);
     board.end_event();
     reply
@@ -124,16 +129,16 @@ fn run_fls<B: Bench>(
     modules: &mut Modules,
     board: &mut B,
     call: FlsRunning,
-    requests: Requests,
+    line: &mut Line,
     log: &mut EventLog,
 ) -> Reply
-    requires ready { IsReady (B.state board.old).shape (record { board = B.state board.old; modules = modules.old }) }
+    requires ready { IsReady (B.state board.old).shape (machine (B.state board.old) modules.old) }
     requires empty { log.old ≡ [] }
-    requires requests { AreReady FlsTst (B.state board.old).shape requests.items }
-    ensures does { Does (running_fls call (record { board = B.state board.old; modules = modules.old }) requests.items) (record { board = B.state board.new; modules = modules.new }) result log.new (B.tape board.old) (B.tape board.new) }
-    ensures ready { IsReady (B.state board.old).shape (record { board = B.state board.new; modules = modules.new }) }
+    requires requests { AreReady FlsTst (B.state board.old).shape line.old.requests.items }
+    ensures does { Does (running_fls call (machine (B.state board.old) modules.old) line.old.requests.items) (machine (B.state board.new) modules.new) result log.new (B.tape board.old) (B.tape board.new) }
+    ensures ready { IsReady (B.state board.old).shape (machine (B.state board.new) modules.new) }
 {
-    board.begin_event(requests);
+    board.begin_event(take_requests(line));
     let reply = make_fls(&mut modules.fls, board, call, log);
     board.end_event();
     reply
@@ -215,18 +220,18 @@ fn call_ram<B: Bench>(
     modules: &mut Modules,
     board: &mut B,
     call: RamCall,
-    requests: Requests,
+    line: &mut Line,
     log: &mut EventLog,
 ) -> Reply
-    requires ready { IsReady (B.state board.old).shape (record { board = B.state board.old; modules = modules.old }) }
+    requires ready { IsReady (B.state board.old).shape (machine (B.state board.old) modules.old) }
     requires empty { log.old ≡ [] }
-    requires sound { AreSoundRequests (B.state board.old).shape requests.items }
-    requires callees { AreFor (running_module (Event.Ram call)) requests.items }
-    ensures does { Does (by_ram (record { board = B.state board.old; modules = modules.old }) call requests.items) (record { board = B.state board.new; modules = modules.new }) result log.new (B.tape board.old) (B.tape board.new) }
-    ensures ready { IsReady (B.state board.old).shape (record { board = B.state board.new; modules = modules.new }) }
+    requires sound { AreSoundRequests (B.state board.old).shape line.old.requests.items }
+    requires callees { AreFor (running_module (Event.Ram call)) line.old.requests.items }
+    ensures does { Does (by_ram (machine (B.state board.old) modules.old) call line.old.requests.items) (machine (B.state board.new) modules.new) result log.new (B.tape board.old) (B.tape board.new) }
+    ensures ready { IsReady (B.state board.old).shape (machine (B.state board.new) modules.new) }
 {
     match running_of(call) {
-        Some(running) => run(modules, board, running, requests, log),
+        Some(running) => run(modules, board, running, line, log),
         None => serve(&mut modules.ram, call),
     }
 }
@@ -236,43 +241,43 @@ fn call_fls<B: Bench>(
     modules: &mut Modules,
     board: &mut B,
     call: FlsCall,
-    requests: Requests,
+    line: &mut Line,
     log: &mut EventLog,
 ) -> Reply
-    requires ready { IsReady (B.state board.old).shape (record { board = B.state board.old; modules = modules.old }) }
+    requires ready { IsReady (B.state board.old).shape (machine (B.state board.old) modules.old) }
     requires empty { log.old ≡ [] }
-    requires sound { AreSoundRequests (B.state board.old).shape requests.items }
-    requires callees { AreFor (running_module (Event.Fls call)) requests.items }
-    ensures does { Does (by_fls (record { board = B.state board.old; modules = modules.old }) call requests.items) (record { board = B.state board.new; modules = modules.new }) result log.new (B.tape board.old) (B.tape board.new) }
-    ensures ready { IsReady (B.state board.old).shape (record { board = B.state board.new; modules = modules.new }) }
+    requires sound { AreSoundRequests (B.state board.old).shape line.old.requests.items }
+    requires callees { AreFor (running_module (Event.Fls call)) line.old.requests.items }
+    ensures does { Does (by_fls (machine (B.state board.old) modules.old) call line.old.requests.items) (machine (B.state board.new) modules.new) result log.new (B.tape board.old) (B.tape board.new) }
+    ensures ready { IsReady (B.state board.old).shape (machine (B.state board.new) modules.new) }
 {
     match fls_running_of(call) {
-        Some(running) => run_fls(modules, board, running, requests, log),
+        Some(running) => run_fls(modules, board, running, line, log),
         None => serve_fls(&mut modules.fls, call),
     }
 }
 
 /// Does what an accepted line asks for. What its requests make is entered in the log, and the line's own reply is
-/// answered; a line that does nothing has none.
+/// answered; a line that does nothing has none. A running event takes the line's requests.
 #[tactic(auto, unfolding(crate::specs::Machine::step))]
 pub fn perform<B: Bench>(
     modules: &mut Modules,
     board: &mut B,
-    line: Line,
+    line: &mut Line,
     log: &mut EventLog,
 ) -> Option<Reply>
-    requires ready { IsReady (B.state board.old).shape (record { board = B.state board.old; modules = modules.old }) }
-    requires line { IsAcceptedLine (B.state board.old).shape line }
+    requires ready { IsReady (B.state board.old).shape (machine (B.state board.old) modules.old) }
+    requires line { IsAcceptedLine (B.state board.old).shape line.old }
     requires empty { log.old ≡ [] }
-    ensures gives { AnswerGives result (record { board = B.state board.old; modules = modules.old }) (record { board = B.state board.new; modules = modules.new }) line log.new (B.tape board.old) (B.tape board.new) }
-    ensures ready { IsReady (B.state board.old).shape (record { board = B.state board.new; modules = modules.new }) }
+    ensures gives { AnswerGives result (machine (B.state board.old) modules.old) (machine (B.state board.new) modules.new) line.old log.new (B.tape board.old) (B.tape board.new) }
+    ensures ready { IsReady (B.state board.old).shape (machine (B.state board.new) modules.new) }
 {
     match line.event {
         Event::Nothing => None,
-        Event::TickRam => Some(run(modules, board, Running::Tick, line.requests, log)),
-        Event::TickFls => Some(run_fls(modules, board, FlsRunning::Tick, line.requests, log)),
-        Event::Ram(call) => Some(call_ram(modules, board, call, line.requests, log)),
-        Event::Fls(call) => Some(call_fls(modules, board, call, line.requests, log)),
+        Event::TickRam => Some(run(modules, board, Running::Tick, line, log)),
+        Event::TickFls => Some(run_fls(modules, board, FlsRunning::Tick, line, log)),
+        Event::Ram(call) => Some(call_ram(modules, board, call, line, log)),
+        Event::Fls(call) => Some(call_fls(modules, board, call, line, log)),
         Event::App(op) => Some(reply_of(board.app(&op))),
         Event::Inject(fault) => Some(inject(board, fault)),
         Event::Heal => {

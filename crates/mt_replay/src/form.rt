@@ -1,21 +1,7 @@
 //! The forms of the program.
 
+use mt_blocks::ParamSet;
 use mt_port::Shape;
-
-/// What is done with a job: it is replayed, it is read alone, or it is written in canonical form.
-#[derive(Clone, Copy, Debug, PartialEq, Eq)]
-pub enum Form {
-    Run,
-    Check,
-    Format,
-}
-
-/// How the lines of a script are taken: the form, and the shape of the memory for which they are read.
-#[derive(Clone, Copy, Debug, PartialEq, Eq)]
-pub struct Task {
-    pub form: Form,
-    pub shape: Shape,
-}
 
 /// What `cut` asks for: the number of a set, counted from 0; a budget, in accesses per tick; and the longest wait for
 /// interrupts, in accesses.
@@ -26,9 +12,22 @@ pub struct Ask {
     pub wait: u32,
 }
 
-/// What the words ask for: a job in one of its forms, or the fewest ticks of a set of its configuration.
+/// What is done with a job: it is replayed; it is read alone; it is written in canonical form, or so with a configuration
+/// of version 2; or it is read, and the fewest ticks of one of its sets are told.
 #[derive(Clone, Copy, Debug, PartialEq, Eq)]
-pub enum Command {
-    Job(Form),
+pub enum Form {
+    Run,
+    Check,
+    Format,
+    Migrate,
     Cut(Ask),
+}
+
+/// How the lines of a script are taken: the form, the shape of the memory for which they are read, and for `cut` the set
+/// that it asks for.
+#[derive(Drop)]
+pub struct Task {
+    pub form: Form,
+    pub shape: Shape,
+    pub set: Option<ParamSet>,
 }

@@ -6,7 +6,7 @@ ghost use Rattle.mt_port.specs.Causes.{HasCause};
 ghost use Rattle.mt_port.specs.Streams.{WhereTold};
 ghost use Rattle.std.specs.Str.{bytes_eq};
 ghost use Rattle.mt_replay.specs.Input.{separator};
-ghost use Rattle.mt_replay.specs.Head.{HeadGives, HeadBreaks, ByteGives};
+ghost use Rattle.mt_replay.specs.Inner.Head.{HeadGives, HeadBreaks, ByteGives};
 
 use crate::input::Input;
 use mt_port::{Failed, Source};

@@ -5,7 +5,7 @@ ghost use Rattle.std.specs.List.{prefix_len};
 ghost use Rattle.std.specs.Io.KnownBytes.{prepend_known};
 ghost use Rattle.mt_port.specs.Causes.{HasCause};
 ghost use Rattle.mt_port.specs.Streams.{WhereTold};
-ghost use Rattle.mt_replay.specs.Input.{TakesLine, TakesPiece, BreaksOff};
+ghost use Rattle.mt_replay.specs.Inner.Reading.{TakesLine, TakesPiece, BreaksOff};
 
 use arrayvec::ArrayVec;
 use mt_port::{Failed, Source};

@@ -1,19 +1,27 @@
 //! Laws of replays.
 
-ghost use Rattle.mt_replay.specs.Fixed.{FormatIsFixed};
+ghost use Rattle.mt_replay.specs.Fixed.{FormattingKeepsOutcomes, MigratingKeepsOutcomes};
 ghost use Rattle.mt_replay.specs.Latency.{TracesAreOfSteps};
 
 use mt_conf::accepted_is_taken;
 
-/// The text of a replay is that of the steps of its lines, and then its end.
+/// The text of a replay is that of the steps of its lines, and then one line on how it ended.
 pub fn traces_are_of_steps()
     ensures { TracesAreOfSteps }
 {}
 
-/// What `fmt` wrote for an accepted input, `fmt` gives back byte for byte, where that text is within the limits of an
-/// input and its configuration is read back.
-pub fn formatting_is_fixed()
-    ensures { FormatIsFixed }
+/// What `fmt` writes for an accepted input gives in each form what the input gives, where that text is within the limits
+/// of an input and its configuration is read back. With `fmt` it is written again byte for byte.
+pub fn formatting_keeps_outcomes()
+    ensures { FormattingKeepsOutcomes }
+{
+    accepted_is_taken();
+}
+
+/// What `migrate` writes for an accepted input gives in each form but `fmt` what the input gives, under the same premises:
+/// it replays to the same text and status, whatever defect the board has, and migrating it again changes nothing.
+pub fn migrating_keeps_outcomes()
+    ensures { MigratingKeepsOutcomes }
 {
     accepted_is_taken();
 }

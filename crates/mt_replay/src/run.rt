@@ -1,100 +1,62 @@
 //! Runs the lines of a script.
 
-ghost use Rattle.std.specs.Prelude.{◌≡◌, ◌<◌, ◌≤◌, ◌+◌, ◌++◌, ℕ, [], ◌∷◌, ◌≢◌, None, Ok, Err, length, OnOk, OnErr, IfOk};
+ghost use Rattle.std.specs.Prelude.{◌≡◌, ◌<◌, ◌≤◌, ◌+◌, ◌++◌, [], ◌∷◌, Ok, length, OnOk, OnErr, IfOk};
 ghost use Rattle.std.specs.Io.KnownBytes.{prepend_known, Appends};
 ghost use Rattle.mt_port.specs.Causes.{HasCause};
 ghost use Rattle.mt_port.specs.Streams.{AppendsFront, WhereTold};
 ghost use Rattle.mt_text.specs.Accepted.{IsAccepted as IsAcceptedLine};
 ghost use Rattle.mt_text.specs.Trace.{entries_text};
-ghost use Rattle.mt_replay.specs.Machine.{Machine, IsReady, step};
-ghost use Rattle.mt_replay.specs.Outcome.{closing_text, refused_text, done, refused, played, reaction, stepped, judged};
-ghost use Rattle.mt_replay.specs.Events.{AnswerGives};
-ghost use Rattle.mt_replay.specs.Run.{Caused, SinkCaused, LineGives, EndGives, TurnGives, ScriptGives, IsReadyFor, UsesBoard};
+ghost use Rattle.mt_replay.specs.Machine.{Machine, machine, IsReady};
+ghost use Rattle.mt_replay.specs.Script.{judged};
+ghost use Rattle.mt_replay.specs.Changes.{change, UsesBoard};
+ghost use Rattle.mt_replay.specs.Inner.Runs.{outputs, place, text_at, Answered, LineGives, LastGives, TurnGives, ScriptGives, PastGives, EndCaused, TurnCaused, ScriptCaused, IsReadyFor};
 
 use crate::event::perform;
 use crate::form::{Form, Task};
 use crate::input::{Input, Line as Reading, LineText};
 use crate::modules::Modules;
-use crate::status::Status;
-use crate::text::{Text, done_text, refused_text};
 use arrayvec::ArrayVec;
-use mt_port::{Bench, Shape, Sink, Source, put};
-use mt_text::{Line, LineKind, read_line, write_entry, write_line};
+use mt_fls::running_calls_keep_the_board as fls_keeps_the_board;
+use mt_port::{Bench, Failed, Shape, Sink, Source, put};
+use mt_ram::running_calls_keep_the_board as ram_keeps_the_board;
+use mt_text::{Line, LineText as CanonicalText, push_line, write_entry};
 use mt_window::{Entry, EventLog, Reply};
 use mt_word::Width;
 
-/// A source or a sink failed.
+/// How a script ends: it is whole, and has so many lines; a line is refused: its number, the rule, and the place of its
+/// first byte that breaks it, all from 1; or the source failed in it.
 #[derive(Clone, Copy, Debug, PartialEq, Eq)]
-pub enum Fault {
-    Read,
-    Write,
+pub enum End {
+    Whole(u32),
+    Refused { line: u32, code: u8, place: u32 },
+    Broken,
 }
 
 /// What came of one line.
 #[derive(Clone, Copy, Debug, PartialEq, Eq)]
 pub enum Turn {
     More,
-    Ended(Status),
+    Ended(End),
 }
 
-// Writes a closing line.
-fn close<K: Sink>(sink: &mut K, text: &Text, status: Status) -> Result<Status, Fault>
-    ensures ok { OnOk result (Appends (K.held sink.old) (K.held sink.new) text.now.items) }
-    ensures err { OnErr result (AppendsFront (K.held sink.old) (K.held sink.new) text.now.items) }
-    ensures same { IfOk result (λ given. given ≡ status) }
-    ensures cause { SinkCaused result (K.faults sink.old) (K.faults sink.new) }
-{
-    match put(sink, text) {
-        Ok(()) => Ok(status),
-        Err(_) => Err(Fault::Write),
+/// Room for what is read and made of a line. It is made once a job, and each line finds it as the line before left it.
+#[derive(Drop)]
+pub(crate) struct Desk {
+    text: LineText,
+    line: Line,
+    log: EventLog,
+    canonical: CanonicalText,
+}
+
+impl Desk {
+    fn new() -> Desk {
+        Desk {
+            text: ArrayVec::new(),
+            line: Line::new(),
+            log: EventLog::new(),
+            canonical: ArrayVec::new(),
+        }
     }
-}
-
-// Writes what stands behind a whole script.
-fn finish<K: Sink>(form: Form, sink: &mut K, count: u32) -> Result<Status, Fault>
-    ensures ok { OnOk result (Appends (K.held sink.old) (K.held sink.new) (closing_text form count)) }
-    ensures err { OnErr result (AppendsFront (K.held sink.old) (K.held sink.new) (closing_text form count)) }
-    ensures same { IfOk result (λ given. given ≡ Status.Done) }
-    ensures cause { SinkCaused result (K.faults sink.old) (K.faults sink.new) }
-{
-    match form {
-        Form::Run | Form::Check => close(sink, &done_text(count), Status::Done),
-        Form::Format => Ok(Status::Done),
-    }
-}
-
-// Writes the closing line of a refused script line.
-fn refuse<K: Sink>(sink: &mut K, line: u32, code: u8, place: u32) -> Result<Status, Fault>
-    ensures ok { OnOk result (Appends (K.held sink.old) (K.held sink.new) (refused_text line code place)) }
-    ensures err { OnErr result (AppendsFront (K.held sink.old) (K.held sink.new) (refused_text line code place)) }
-    ensures same { IfOk result (λ given. given ≡ Status.BadScript line code place) }
-    ensures cause { SinkCaused result (K.faults sink.old) (K.faults sink.new) }
-{
-    close(
-        sink,
-        &refused_text(line, code, place),
-        Status::BadScript { line, code, place },
-    )
-}
-
-// The end of a script that is whole.
-fn finish_turn<K: Sink>(task: Task, sink: &mut K, count: u32) -> Result<Turn, Fault>
-    ensures gives { (m : Machine) (told : _) → EndGives result (done task m count) m
-        (record { left = None; left' = None; held = K.held sink.old; held' = K.held sink.new; tape = told; tape' = told }) }
-    ensures ended { result ≢ Ok Turn.More }
-    ensures cause { SinkCaused result (K.faults sink.old) (K.faults sink.new) }
-{
-    Ok(Turn::Ended(finish(task.form, sink, count)?))
-}
-
-// The end of a script at a refused line.
-fn refuse_turn<K: Sink>(sink: &mut K, line: u32, code: u8, place: u32) -> Result<Turn, Fault>
-    ensures gives { (m : Machine) (told : _) → EndGives result (refused m line code place) m
-        (record { left = None; left' = None; held = K.held sink.old; held' = K.held sink.new; tape = told; tape' = told }) }
-    ensures ended { result ≢ Ok Turn.More }
-    ensures cause { SinkCaused result (K.faults sink.old) (K.faults sink.new) }
-{
-    Ok(Turn::Ended(refuse(sink, line, code, place)?))
 }
 
 // Writes the trace lines of some entries.
@@ -103,15 +65,15 @@ fn write_entries<K: Sink>(
     entries: &[Entry],
     width: Width,
     number: u32,
-) -> Result<(), Fault>
+) -> Result<(), Failed>
     ensures ok { OnOk result (Appends (K.held sink.old) (K.held sink.new) (entries_text width number entries.now)) }
     ensures err { OnErr result (AppendsFront (K.held sink.old) (K.held sink.new) (entries_text width number entries.now)) }
-    ensures cause { SinkCaused result (K.faults sink.old) (K.faults sink.new) }
+    ensures cause { HasCause (K.faults sink.old) (K.faults sink.new) result }
 {
     for entry in entries {
         match write_entry(number, entry, width, sink) {
             Ok(()) => {}
-            Err(_) => return Err(Fault::Write),
+            Err(failed) => return Err(failed),
         }
     }
     Ok(())
@@ -124,18 +86,14 @@ fn write_answer<K: Sink>(
     reply: Reply,
     width: Width,
     number: u32,
-) -> Result<Turn, Fault>
+) -> Result<(), Failed>
     ensures ok { OnOk result (Appends (K.held sink.old) (K.held sink.new) (entries_text width number (log.now ++ Entry.Own reply ∷ []))) }
     ensures err { OnErr result (AppendsFront (K.held sink.old) (K.held sink.new) (entries_text width number (log.now ++ Entry.Own reply ∷ []))) }
-    ensures same { IfOk result (λ turn. turn ≡ Turn.More) }
-    ensures cause { SinkCaused result (K.faults sink.old) (K.faults sink.new) }
+    ensures cause { HasCause (K.faults sink.old) (K.faults sink.new) result }
 {
     match write_entries(sink, log, width, number) {
-        Ok(()) => match write_entry(number, &Entry::Own(reply), width, sink) {
-            Ok(()) => Ok(Turn::More),
-            Err(_) => Err(Fault::Write),
-        },
-        Err(fault) => Err(fault),
+        Ok(()) => write_entry(number, &Entry::Own(reply), width, sink),
+        Err(failed) => Err(failed),
     }
 }
 
@@ -145,187 +103,196 @@ fn play_line<K: Sink, B: Bench>(
     modules: &mut Modules,
     board: &mut B,
     sink: &mut K,
-    line: Line,
+    desk: &mut Desk,
     number: u32,
-) -> Result<Turn, Fault>
-    requires ready { IsReady shape (record { board = B.state board.old; modules = modules.old }) }
-    requires line { IsAcceptedLine shape line }
-    ensures ready { IsReady shape (record { board = B.state board.new; modules = modules.new }) }
-    ensures gives { LineGives result (stepped (played shape number (step (record { board = B.state board.old; modules = modules.old }) line))) (record { board = B.state board.new; modules = modules.new })
-        (record { left = None; left' = None; held = K.held sink.old; held' = K.held sink.new; tape = B.tape board.old; tape' = B.tape board.new }) }
-    ensures cause { SinkCaused result (K.faults sink.old) (K.faults sink.new) }
+) -> Result<(), Failed>
+    requires ready { IsReady shape (machine (B.state board.old) modules.old) }
+    requires line { IsAcceptedLine shape desk.old.line }
+    ensures ready { IsReady shape (machine (B.state board.new) modules.new) }
+    ensures board { UsesBoard Form.Run (B.state board.old) (B.state board.new) (B.tape board.old) (B.tape board.new) }
+    ensures ok { OnOk result (Answered (place Form.Run shape number) (machine (B.state board.old) modules.old) (machine (B.state board.new) modules.new)
+        (desk.old.line ∷ []) (outputs (K.held sink.old) (K.held sink.new) (B.tape board.old) (B.tape board.new))) }
+    ensures err { OnErr result (AppendsFront (K.held sink.old) (K.held sink.new) (text_at (place Form.Run shape number) (machine (B.state board.old) modules.old) (desk.old.line ∷ []))) }
+    ensures cause { HasCause (K.faults sink.old) (K.faults sink.new) result }
 {
-    let mut log = EventLog::new();
-    match perform(modules, board, line, &mut log) {
-        None => Ok(Turn::More),
-        Some(reply) => write_answer(sink, log.entries(), reply, shape.width, number),
+    ram_keeps_the_board();
+    fls_keeps_the_board();
+    desk.log.clear();
+    match perform(modules, board, &mut desk.line, &mut desk.log) {
+        None => Ok(()),
+        Some(reply) => write_answer(sink, desk.log.entries(), reply, shape.width, number),
     }
 }
 
 // Writes an accepted line in canonical form.
-fn format_line<K: Sink>(shape: Shape, sink: &mut K, line: &Line) -> Result<Turn, Fault>
-    ensures gives { (m : Machine) (number : ℕ) (told : _) → LineGives result (stepped (reaction Form.Format shape m number line.now)) m
-        (record { left = None; left' = None; held = K.held sink.old; held' = K.held sink.new; tape = told; tape' = told }) }
-    ensures cause { SinkCaused result (K.faults sink.old) (K.faults sink.new) }
+fn format_line<K: Sink>(shape: Shape, sink: &mut K, desk: &mut Desk) -> Result<(), Failed>
+    ensures ok { (m : Machine) (number : _) → OnOk result (Appends (K.held sink.old) (K.held sink.new) (text_at (place Form.Format shape number) m (desk.old.line ∷ []))) }
+    ensures err { (m : Machine) (number : _) → OnErr result (AppendsFront (K.held sink.old) (K.held sink.new) (text_at (place Form.Format shape number) m (desk.old.line ∷ []))) }
+    ensures cause { HasCause (K.faults sink.old) (K.faults sink.new) result }
 {
-    match write_line(line, shape, sink) {
-        Ok(()) => Ok(Turn::More),
-        Err(_) => Err(Fault::Write),
-    }
+    desk.canonical.clear();
+    push_line(&mut desk.canonical, &desk.line, shape.width);
+    put(sink, &desk.canonical)
 }
 
 // What the form makes of an accepted line.
 fn answer_line<K: Sink, B: Bench>(
-    task: Task,
+    task: &Task,
     modules: &mut Modules,
     board: &mut B,
     sink: &mut K,
-    line: Line,
+    desk: &mut Desk,
     number: u32,
-) -> Result<Turn, Fault>
-    requires ready { IsReadyFor task.form task.shape (record { board = B.state board.old; modules = modules.old }) }
-    requires line { IsAcceptedLine task.shape line }
-    ensures ready { IsReadyFor task.form task.shape (record { board = B.state board.new; modules = modules.new }) }
-    ensures board { UsesBoard task.form (B.state board.old) (B.state board.new) (B.tape board.old) (B.tape board.new) }
-    ensures gives { LineGives result (stepped (reaction task.form task.shape (record { board = B.state board.old; modules = modules.old }) number line)) (record { board = B.state board.new; modules = modules.new })
-        (record { left = None; left' = None; held = K.held sink.old; held' = K.held sink.new; tape = B.tape board.old; tape' = B.tape board.new }) }
-    ensures cause { SinkCaused result (K.faults sink.old) (K.faults sink.new) }
+) -> Result<(), Failed>
+    requires ready { IsReadyFor task.now.form task.now.shape (machine (B.state board.old) modules.old) }
+    requires line { IsAcceptedLine task.now.shape desk.old.line }
+    ensures ready { IsReadyFor task.now.form task.now.shape (machine (B.state board.new) modules.new) }
+    ensures board { UsesBoard task.now.form (B.state board.old) (B.state board.new) (B.tape board.old) (B.tape board.new) }
+    ensures ok { OnOk result (Answered (place task.now.form task.now.shape number) (machine (B.state board.old) modules.old) (machine (B.state board.new) modules.new)
+        (desk.old.line ∷ []) (outputs (K.held sink.old) (K.held sink.new) (B.tape board.old) (B.tape board.new))) }
+    ensures err { OnErr result (AppendsFront (K.held sink.old) (K.held sink.new) (text_at (place task.now.form task.now.shape number) (machine (B.state board.old) modules.old) (desk.old.line ∷ []))) }
+    ensures cause { HasCause (K.faults sink.old) (K.faults sink.new) result }
 {
     match task.form {
-        Form::Run => play_line(task.shape, modules, board, sink, line, number),
-        Form::Check => Ok(Turn::More),
-        Form::Format => format_line(task.shape, sink, &line),
+        Form::Run => play_line(task.shape, modules, board, sink, desk, number),
+        Form::Check | Form::Cut(_) => Ok(()),
+        Form::Format | Form::Migrate => format_line(task.shape, sink, desk),
     }
 }
 
 // Reads the text of a line, and does what it asks for.
 fn judge_line<K: Sink, B: Bench>(
-    task: Task,
+    task: &Task,
     modules: &mut Modules,
     board: &mut B,
     sink: &mut K,
-    text: &[u8],
+    desk: &mut Desk,
     number: u32,
-) -> Result<Turn, Fault>
-    requires ready { IsReadyFor task.form task.shape (record { board = B.state board.old; modules = modules.old }) }
-    requires short { length text.now ≤ 1024 }
+) -> Result<Turn, Failed>
+    requires ready { IsReadyFor task.now.form task.now.shape (machine (B.state board.old) modules.old) }
     requires few { number ≤ 1000000 }
-    ensures ready { IsReadyFor task.form task.shape (record { board = B.state board.new; modules = modules.new }) }
-    ensures board { UsesBoard task.form (B.state board.old) (B.state board.new) (B.tape board.old) (B.tape board.new) }
-    ensures gives { LineGives result (judged task (record { board = B.state board.old; modules = modules.old }) number text.now) (record { board = B.state board.new; modules = modules.new })
-        (record { left = None; left' = None; held = K.held sink.old; held' = K.held sink.new; tape = B.tape board.old; tape' = B.tape board.new }) }
-    ensures cause { SinkCaused result (K.faults sink.old) (K.faults sink.new) }
+    ensures ready { IsReadyFor task.now.form task.now.shape (machine (B.state board.new) modules.new) }
+    ensures board { UsesBoard task.now.form (B.state board.old) (B.state board.new) (B.tape board.old) (B.tape board.new) }
+    ensures gives { LineGives result (place task.now.form task.now.shape number) (judged task.now.shape number desk.old.text.items) (machine (B.state board.old) modules.old)
+        (machine (B.state board.new) modules.new) (outputs (K.held sink.old) (K.held sink.new) (B.tape board.old) (B.tape board.new)) }
+    ensures cause { HasCause (K.faults sink.old) (K.faults sink.new) result }
 {
-    match read_line(text, task.shape) {
-        Ok(line) => answer_line(task, modules, board, sink, line, number),
-        Err(refusal) => refuse_turn(sink, number, refusal.kind.number(), refusal.place),
+    match desk.line.read(&desk.text, task.shape) {
+        Ok(()) => match answer_line(task, modules, board, sink, desk, number) {
+            Ok(()) => Ok(Turn::More),
+            Err(failed) => Err(failed),
+        },
+        Err(refusal) => Ok(Turn::Ended(End::Refused {
+            line: number,
+            code: refusal.kind.number(),
+            place: refusal.place,
+        })),
     }
 }
 
 // The last line, which has no line feed.
 fn last_line<K: Sink, B: Bench>(
-    task: Task,
+    task: &Task,
     modules: &mut Modules,
     board: &mut B,
     sink: &mut K,
-    text: &[u8],
+    desk: &mut Desk,
     number: u32,
-) -> Result<Turn, Fault>
-    requires ready { IsReadyFor task.form task.shape (record { board = B.state board.old; modules = modules.old }) }
-    requires short { length text.now ≤ 1024 }
+) -> Result<End, Failed>
+    requires ready { IsReadyFor task.now.form task.now.shape (machine (B.state board.old) modules.old) }
     requires few { number ≤ 1000000 }
-    ensures ready { IsReadyFor task.form task.shape (record { board = B.state board.new; modules = modules.new }) }
-    ensures board { UsesBoard task.form (B.state board.old) (B.state board.new) (B.tape board.old) (B.tape board.new) }
-    ensures gives { EndGives result (judged task (record { board = B.state board.old; modules = modules.old }) number text.now (λ after. done task after number)) (record { board = B.state board.new; modules = modules.new })
-        (record { left = None; left' = None; held = K.held sink.old; held' = K.held sink.new; tape = B.tape board.old; tape' = B.tape board.new }) }
-    ensures cause { SinkCaused result (K.faults sink.old) (K.faults sink.new) }
+    ensures ready { IsReadyFor task.now.form task.now.shape (machine (B.state board.new) modules.new) }
+    ensures board { UsesBoard task.now.form (B.state board.old) (B.state board.new) (B.tape board.old) (B.tape board.new) }
+    ensures gives { LastGives result (place task.now.form task.now.shape number) (judged task.now.shape number desk.old.text.items) (machine (B.state board.old) modules.old)
+        (machine (B.state board.new) modules.new) (outputs (K.held sink.old) (K.held sink.new) (B.tape board.old) (B.tape board.new)) }
+    ensures cause { HasCause (K.faults sink.old) (K.faults sink.new) result }
 {
-    match judge_line(task, modules, board, sink, text, number) {
-        Ok(Turn::More) => finish_turn(task, sink, number),
-        Ok(Turn::Ended(status)) => Ok(Turn::Ended(status)),
-        Err(fault) => Err(fault),
+    match judge_line(task, modules, board, sink, desk, number) {
+        Ok(Turn::More) => Ok(End::Whole(number)),
+        Ok(Turn::Ended(end)) => Ok(end),
+        Err(failed) => Err(failed),
     }
 }
 
 // Runs the next line, or ends the script.
 fn run_line<S: Source, K: Sink, B: Bench>(
-    task: Task,
+    task: &Task,
     modules: &mut Modules,
     board: &mut B,
     input: &mut Input,
     source: &mut S,
     sink: &mut K,
+    desk: &mut Desk,
     number: u32,
-) -> Result<Turn, Fault>
-    requires ready { IsReadyFor task.form task.shape (record { board = B.state board.old; modules = modules.old }) }
+) -> Result<Turn, Failed>
+    requires ready { IsReadyFor task.now.form task.now.shape (machine (B.state board.old) modules.old) }
     requires first { 1 ≤ number }
     requires few { number ≤ 1000000 }
-    ensures ready { IsReadyFor task.form task.shape (record { board = B.state board.new; modules = modules.new }) }
-    ensures board { UsesBoard task.form (B.state board.old) (B.state board.new) (B.tape board.old) (B.tape board.new) }
-    ensures gives { TurnGives result task (record { board = B.state board.old; modules = modules.old }) (record { board = B.state board.new; modules = modules.new }) number
-        (record { left = prepend_known input.old (S.left source.old); left' = prepend_known input.new (S.left source.new); held = K.held sink.old; held' = K.held sink.new; tape = B.tape board.old; tape' = B.tape board.new }) }
-    ensures none { result ≡ Err Fault.Read → input.new ≡ [] }
-    ensures cause { Caused result (S.faults source.old) (S.faults source.new) (K.faults sink.old) (K.faults sink.new) }
+    ensures ready { IsReadyFor task.now.form task.now.shape (machine (B.state board.new) modules.new) }
+    ensures board { UsesBoard task.now.form (B.state board.old) (B.state board.new) (B.tape board.old) (B.tape board.new) }
+    ensures gives { TurnGives result (place task.now.form task.now.shape number) (machine (B.state board.old) modules.old) (machine (B.state board.new) modules.new)
+        (change (prepend_known input.old (S.left source.old)) (prepend_known input.new (S.left source.new)) (K.held sink.old) (K.held sink.new) (B.tape board.old) (B.tape board.new)) }
+    ensures none { result ≡ Ok (Turn.Ended End.Broken) → input.new ≡ [] }
+    ensures cause { TurnCaused result (S.faults source.old) (S.faults source.new) (K.faults sink.old) (K.faults sink.new) }
 {
-    let mut text: LineText = ArrayVec::new();
-    let Ok(reading) = input.read_line(source, &mut text) else {
-        return Err(Fault::Read);
-    };
-    match reading {
-        Reading::Whole => judge_line(task, modules, board, sink, &text, number),
-        Reading::Last => last_line(task, modules, board, sink, &text, number),
-        Reading::End => finish_turn(task, sink, number - 1),
-        Reading::TooLong => refuse_turn(sink, number, 10, 1025),
+    desk.text.clear();
+    match input.read_line(source, &mut desk.text) {
+        Ok(Reading::Whole) => judge_line(task, modules, board, sink, desk, number),
+        Ok(Reading::Last) => match last_line(task, modules, board, sink, desk, number) {
+            Ok(end) => Ok(Turn::Ended(end)),
+            Err(failed) => Err(failed),
+        },
+        Ok(Reading::End) => Ok(Turn::Ended(End::Whole(number - 1))),
+        Ok(Reading::TooLong) => Ok(Turn::Ended(End::Refused {
+            line: number,
+            code: 10,
+            place: 1025,
+        })),
+        Err(_) => Ok(Turn::Ended(End::Broken)),
     }
 }
 
 // What comes behind the last line that may be: the end, or a line too many.
-fn run_past<S: Source, K: Sink>(
-    task: Task,
-    input: &mut Input,
-    source: &mut S,
-    sink: &mut K,
-) -> Result<Turn, Fault>
-    ensures gives { (m : Machine) (told : _) → TurnGives result task m m 1000001
-        (record { left = prepend_known input.old (S.left source.old); left' = prepend_known input.new (S.left source.new); held = K.held sink.old; held' = K.held sink.new; tape = told; tape' = told }) }
-    ensures ended { result ≢ Ok Turn.More }
-    ensures none { result ≡ Err Fault.Read → input.new ≡ [] }
-    ensures cause { Caused result (S.faults source.old) (S.faults source.new) (K.faults sink.old) (K.faults sink.new) }
+fn run_past<S: Source>(input: &mut Input, source: &mut S) -> End
+    ensures gives { (shape : Shape) → PastGives result shape (prepend_known input.old (S.left source.old)) (prepend_known input.new (S.left source.new)) }
+    ensures none { result ≡ End.Broken → input.new ≡ [] }
+    ensures cause { EndCaused result (S.faults source.old) (S.faults source.new) }
 {
     match input.fill(source) {
-        Ok(true) => refuse_turn(sink, 1_000_001, 11, 1),
-        Ok(false) => finish_turn(task, sink, 1_000_000),
-        Err(_) => Err(Fault::Read),
+        Ok(true) => End::Refused {
+            line: 1_000_001,
+            code: 11,
+            place: 1,
+        },
+        Ok(false) => End::Whole(1_000_000),
+        Err(_) => End::Broken,
     }
 }
 
-/// Runs the lines that the source has left, and writes their trace.
+/// Runs the lines that the source has left, writes what the form makes of them, and answers how they end.
 pub fn run_script<S: Source, K: Sink, B: Bench>(
-    task: Task,
+    task: &Task,
     modules: &mut Modules,
     board: &mut B,
     input: &mut Input,
     source: &mut S,
     sink: &mut K,
-) -> Result<Status, Fault>
-    requires { IsReadyFor task.form task.shape (record { board = B.state board.old; modules = modules.old }) }
-    ensures ready { IsReadyFor task.form task.shape (record { board = B.state board.new; modules = modules.new }) }
-    ensures board { UsesBoard task.form (B.state board.old) (B.state board.new) (B.tape board.old) (B.tape board.new) }
-    ensures gives { ScriptGives result task (record { board = B.state board.old; modules = modules.old }) (record { board = B.state board.new; modules = modules.new }) 1
-        (record { left = prepend_known input.old (S.left source.old); left' = prepend_known input.new (S.left source.new); held = K.held sink.old; held' = K.held sink.new; tape = B.tape board.old; tape' = B.tape board.new }) }
-    ensures none { result ≡ Err Fault.Read → input.new ≡ [] }
-    ensures cause { Caused result (S.faults source.old) (S.faults source.new) (K.faults sink.old) (K.faults sink.new) }
+) -> Result<End, Failed>
+    requires { IsReadyFor task.now.form task.now.shape (machine (B.state board.old) modules.old) }
+    ensures ready { IsReadyFor task.now.form task.now.shape (machine (B.state board.new) modules.new) }
+    ensures board { UsesBoard task.now.form (B.state board.old) (B.state board.new) (B.tape board.old) (B.tape board.new) }
+    ensures gives { ScriptGives result (place task.now.form task.now.shape 1) (machine (B.state board.old) modules.old) (machine (B.state board.new) modules.new)
+        (change (prepend_known input.old (S.left source.old)) (prepend_known input.new (S.left source.new)) (K.held sink.old) (K.held sink.new) (B.tape board.old) (B.tape board.new)) }
+    ensures none { result ≡ Ok End.Broken → input.new ≡ [] }
+    ensures cause { ScriptCaused result (S.faults source.old) (S.faults source.new) (K.faults sink.old) (K.faults sink.new) }
 {
+    let mut desk = Desk::new();
     for number in 1..=1_000_000 {
-        match run_line(task, modules, board, input, source, sink, number) {
+        match run_line(task, modules, board, input, source, sink, &mut desk, number) {
             Ok(Turn::More) => {}
-            Ok(Turn::Ended(status)) => return Ok(status),
-            Err(fault) => return Err(fault),
+            Ok(Turn::Ended(end)) => return Ok(end),
+            Err(failed) => return Err(failed),
         }
     }
-    match run_past(task, input, source, sink) {
-        Ok(Turn::Ended(status)) => Ok(status),
-        Ok(Turn::More) => unreachable!(),
-        Err(fault) => Err(fault),
-    }
+    Ok(run_past(input, source))
 }

@@ -5,7 +5,7 @@ ghost use Rattle.mt_replay.specs.Outcome.{done_text, refused_text, bad_config_te
 
 use crate::refused::Refused;
 use arrayvec::ArrayVec;
-use mt_text::{push_bytes, push_number};
+use mt_hex::{push_bytes, push_number};
 
 /// A closing line: at most 64 bytes.
 pub type Text = ArrayVec<u8, 64>;

@@ -9,3 +9,5 @@ pub mod Moments
 pub mod Attempts
 pub mod Endings
 pub mod Urgent
+pub mod Spans
+pub mod SpanRuns

@@ -37,7 +37,7 @@ use Rattle.mt_seq.proofs.Moves.{saving_at}
 
 -- ---- items of lists
 
-take_more : {X : Type 0} (xs : List X) (i : ℕ) (x : X) → slice_get xs i ≡ Some x → take (i + 1) xs ≡ take i xs ++ x ∷ []
+pub take_more : {X : Type 0} (xs : List X) (i : ℕ) (x : X) → slice_get xs i ≡ Some x → take (i + 1) xs ≡ take i xs ++ x ∷ []
 take_more xs i x at =
     ap (λ (k : ℕ). take k xs) (add-one i) ∙ take-suc xs i x (slice_get_within xs i x at) ∙ ap (λ y. take i xs ++ y ∷ []) (get_or_from_slice_get xs i x x at)
 
@@ -86,7 +86,7 @@ pub saved_long : (policy : Policy) (fault : Option Fault) (words : List ℕ) (sl
 saved_long NonDestructive fault words slice = length-map (cells slice.n) (λ (cell : ℕ). answer fault words [] (slice.first + cell)) ∙ length-cells slice.n ∙ sym (length-saving slice)
 saved_long Destructive fault words slice = refl
 
-whole_saved : (policy : Policy) (fault : Option Fault) (words : List ℕ) (slice : Slice) (i : ℕ) → length (saving policy slice) ≤ i → take i (saved_words policy fault words slice) ≡ saved_words policy fault words slice
+pub whole_saved : (policy : Policy) (fault : Option Fault) (words : List ℕ) (slice : Slice) (i : ℕ) → length (saving policy slice) ≤ i → take i (saved_words policy fault words slice) ≡ saved_words policy fault words slice
 whole_saved policy fault words slice i h = take_all i (saved_words policy fault words slice) (omega (arith, saved_long policy fault words slice))
 
 -- what is listed with the words saved so far has the same next access
@@ -183,7 +183,7 @@ saved_more b s now told tape item answer' sound is at look =
           ∙ is.saved ∙ whole_saved s.job.policy b.fault b.words s.slice s.made le ∙ sym (whole_saved s.job.policy b.fault b.words s.slice (s.made + 1) (omega arith))
     ]
 
-differs_more : (d g : Bool) → (not d && g) ≡ not (d || not g)
+pub differs_more : (d g : Bool) → (not d && g) ≡ not (d || not g)
 differs_more true true = refl
 differs_more true false = refl
 differs_more false true = refl

@@ -3,16 +3,17 @@ use Rattle.std.proofs.Common.{ℕ, zero, suc, ◌≡◌, ◌+◌, ◌-◌, ◌<�
 use Rattle.std.specs.Prelude.{All, nat_lt, nat_le, if◌then◌else◌, ◌&&◌, find}
 use Rattle.std.specs.List.{range_with_len}
 use Rattle.std.proofs.lemmas.Bool.{cases_lt, lt-ltb, le-ltb, le-leb, lt-leb}
-use Rattle.std.proofs.lemmas.List.{length-take}
-use Rattle.mt_plan.specs.Plan.{steps_of}
+use Rattle.std.proofs.lemmas.List.{length-map, length-take}
+use Rattle.mt_plan.specs.Plan.{hold_of, steps_of}
 use Rattle.mt_plan.specs.declared.algorithm.Policy.{Policy}
-use Rattle.mt_plan.specs.declared.algorithm.Policy.TheVariants.{NonDestructive}
+use Rattle.mt_plan.specs.declared.algorithm.Policy.TheVariants.{NonDestructive, Destructive}
 use Rattle.mt_port.specs.declared.request.Request.{Request}
 use Rattle.mt_port.specs.Board.{Board, is_urgent_due}
 use Rattle.mt_seq.specs.declared.sequence.Slice.{Slice}
 use Rattle.mt_seq.specs.declared.sequence.Job.{Job}
-use Rattle.mt_seq.specs.Attempts.{attempt, attempt_to, attempt_length, attempt_verdict, backed_out, dropped_at, keeps_words, verdict_to}
-use Rattle.mt_seq.specs.Laws.{length_to, AttemptsAreCounted, AttemptsAreShort, DroppedAttemptsServe, UrgentWaitsAreShort}
+use Rattle.mt_seq.specs.Attempts.{attempt, attempt_to, attempt_length, attempt_touches, attempt_verdict, backed_out, dropped_at, keeps_words, verdict_to}
+use Rattle.mt_seq.specs.Tape.{touch_of}
+use Rattle.mt_seq.specs.Laws.{length_to, AttemptsAreCounted, AttemptsAreShort, AttemptsAreTold, NoAttemptIsEmpty, DroppedAttemptsServe, UrgentWaitsAreShort}
 use Rattle.mt_seq.specs.Sequence.{saved_words, ending, sequence, sequence_hold}
 use Rattle.mt_seq.proofs.Attempts.{IsDropped, dropped, hold_length, keeping_hold, urgent}
 use Rattle.mt_seq.proofs.Lengths.{length-ending}
@@ -52,6 +53,25 @@ attempts_are_short may b job slice = subst (λ (k : ℕ). k ≤ sequence_hold jo
     by_drop : (o : Option ℕ) → dropped_at may b job slice ≡ o → length_to job slice.n o ≤ sequence_hold job slice.n
     by_drop None e = omega arith
     by_drop (Some i) e = omega (arith, short may b job slice i (dropped may b job slice i e), (bounds slice.n i).1)
+
+pub hold_some : (job : Job) (n : ℕ) → n ≤ sequence_hold job n
+unfolding sequence_hold
+hold_some job n = by_policy job.policy
+  where
+    by_policy : (p : Policy) → n ≤ hold_of job.alg p n
+    by_policy NonDestructive = omega arith
+    by_policy Destructive = omega arith
+
+pub no_attempt_is_empty : NoAttemptIsEmpty
+no_attempt_is_empty may b job slice some = subst (λ (k : ℕ). 1 ≤ k) (sym (attempts_are_counted may b job slice)) (by_drop (dropped_at may b job slice) refl)
+  where
+    by_drop : (o : Option ℕ) → dropped_at may b job slice ≡ o → 1 ≤ length_to job slice.n o
+    by_drop None e = omega (arith, hold_some job slice.n, some)
+    by_drop (Some i) e = omega (arith, (dropped may b job slice i e).first.from, (bounds slice.n i).0)
+
+pub attempts_are_told : AttemptsAreTold
+unfolding attempt_length attempt_touches
+attempts_are_told may b job slice = length-map (attempt may b job slice) touch_of
 
 -- ---- what is due stays due
 

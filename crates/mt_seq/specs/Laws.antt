@@ -12,7 +12,7 @@ use Rattle.mt_seq.specs.Makes.{Makes}
 use Rattle.mt_seq.specs.Stepping.{Stepping, begun, IsStep, IsUnderway}
 use Rattle.mt_port.specs.declared.request.Request.{Request}
 use Rattle.mt_seq.specs.declared.sequence.Verdict.{Verdict}
-use Rattle.mt_seq.specs.Attempts.{attempt_length, attempt_verdict, attempt_words, dropped_at}
+use Rattle.mt_seq.specs.Attempts.{attempt_length, attempt_touches, attempt_verdict, attempt_words, dropped_at}
 use Rattle.mt_seq.specs.declared.sequence.Slice.{Slice}
 use Rattle.mt_seq.specs.declared.sequence.Job.{Job}
 use Rattle.mt_seq.specs.declared.sequence.Verdict.TheVariants.{Pass, Fail}
@@ -98,6 +98,14 @@ length_to job n (Some i) = if nat_lt n i then i + n else i
 
 abbrev pub AttemptsAreCounted : Type 0
 AttemptsAreCounted = (may : Bool) (b : Board) (job : Job) (slice : Slice) → attempt_length may b job slice ≡ length_to job slice.n (dropped_at may b job slice)
+
+-- no attempt is empty
+abbrev pub NoAttemptIsEmpty : Type 0
+NoAttemptIsEmpty = (may : Bool) (b : Board) (job : Job) (slice : Slice) → 1 ≤ slice.n → 1 ≤ attempt_length may b job slice
+
+-- a tape that tells an attempt has all its accesses
+abbrev pub AttemptsAreTold : Type 0
+AttemptsAreTold = (may : Bool) (b : Board) (job : Job) (slice : Slice) → length (attempt_touches may b job slice) ≡ attempt_length may b job slice
 
 -- no attempt has more accesses than its sequence
 abbrev pub AttemptsAreShort : Type 0

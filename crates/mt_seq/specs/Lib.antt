@@ -5,3 +5,4 @@ pub mod Stepping
 pub mod Compare
 pub mod Attempts
 pub mod Laws
+pub mod Inner

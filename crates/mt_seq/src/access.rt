@@ -2,9 +2,14 @@
 
 ghost use Rattle.std.specs.Prelude.{◌≡◌, ◌<◌, ◌+◌, ◌^◌, [], ◌∷◌, true};
 ghost use Rattle.mt_seq.specs.Makes.{Makes};
-ghost use Rattle.mt_seq.specs.Stepping.{agreed, item_of_access, place_of, FitsAccess, IsLookAnswer};
+ghost use Rattle.mt_word.specs.Word.{Fits};
+ghost use Rattle.mt_word.specs.declared.Width.{Width};
+ghost use Rattle.mt_seq.specs.Inner.Ground.{access_for, word_for};
+ghost use Rattle.mt_seq.specs.Stepping.{agreed, item_of_access, place_of, FitsAccess, IsLookAnswer, IsNoLook};
 
+use mt_plan::Act;
 use mt_port::Port;
+use mt_word::{Width, flip};
 
 /// One access of a sequence.
 #[derive(Clone, Copy, Debug, PartialEq, Eq)]
@@ -39,6 +44,19 @@ impl Access {
         }
     }
 
+    /// Makes the access, and answers whether it is no checked read that answered another word.
+    #[inline(always)]
+    pub(crate) fn check<P: Port>(self, port: &mut P) -> bool
+        requires held { (P.state port.old).held ≡ true }
+        requires inside { place_of self < (P.state port.old).shape.ram }
+        requires fits { FitsAccess (P.state port.old).shape.width self }
+        requires room { (P.state port.old).count + 1 < 2 ^ 32 }
+        ensures { Makes (item_of_access self ∷ []) (P.state port.old) (P.state port.new) (P.tape port.old) (P.tape port.new) result }
+    {
+        let answer = self.make(port);
+        self.agrees(answer)
+    }
+
     /// Whether the access is no checked read that answered another word.
     #[inline(always)]
     pub(crate) fn agrees(self, answer: u64) -> bool
@@ -48,5 +66,34 @@ impl Access {
             Access::Check { word, .. } => answer == word,
             Access::Look { .. } | Access::Store { .. } => true,
         }
+    }
+}
+
+/// The word of an act on a cell with a background word.
+#[inline(always)]
+pub(crate) fn word_of(width: Width, back: u64, act: Act) -> u64
+    requires { Fits width back }
+    ensures word { result ≡ word_for width back act }
+    ensures fits { Fits width result }
+{
+    if act.is_flipped() {
+        flip(width, back)
+    } else {
+        back
+    }
+}
+
+/// An act as an access, with its word.
+#[inline(always)]
+pub(crate) fn access_of(addr: u32, word: u64, act: Act) -> Access
+    ensures item { item_of_access result ≡ access_for addr word act }
+    ensures kind { IsNoLook (item_of_access result) }
+    ensures addr { place_of result ≡ addr }
+    ensures fits { (width : Width) → Fits width word → FitsAccess width result }
+{
+    if act.is_write() {
+        Access::Store { addr, word }
+    } else {
+        Access::Check { addr, word }
     }
 }

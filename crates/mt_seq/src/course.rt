@@ -1,22 +1,24 @@
 //! A sequence under way, without its job.
 
-ghost use Rattle.std.specs.Prelude.{◌≡◌, ◌<◌, ◌≤◌, ◌+◌, ◌-◌, ◌^◌, ℕ, Some, length, All, true, if◌then◌else◌, slice_index};
+ghost use Rattle.std.specs.Prelude.{◌≡◌, ◌<◌, ◌≤◌, ◌+◌, ◌-◌, ◌^◌, ℕ, Some, map, length, All, true, if◌then◌else◌, slice_index};
 ghost use Rattle.mt_word.specs.Word.{Fits};
 ghost use Rattle.mt_fault.specs.Items.{Item, Look, Store};
-ghost use Rattle.mt_plan.specs.Accesses.{act_on};
-ghost use Rattle.mt_plan.specs.Cursor.{IsCursor, cells_of, made_by};
+ghost use Rattle.mt_plan.specs.Accesses.{item_of};
+ghost use Rattle.mt_plan.specs.Cursor.{Continues, IsCursor, begins_span, cells_of, made_by, span_of};
 ghost use Rattle.mt_plan.specs.Plan.{IsAccepted, steps_of};
-ghost use Rattle.mt_seq.specs.Sequence.{is_transparent, last_of, saving, sequence_hold};
-ghost use Rattle.mt_seq.specs.Stepping.{begun, item_at, item_of_access, job_of, view_of, stepped, place_of, FitsAccess, IsCourse, IsMoved, IsNoLook, IsReady, IsStepOf, progress_of};
+ghost use Rattle.mt_seq.specs.Makes.{Makes};
+ghost use Rattle.mt_seq.specs.Sequence.{back_of, is_transparent, last_of, saving, sequence_hold};
+ghost use Rattle.mt_seq.specs.Stepping.{begun, item_at, item_of_access, job_of, view_of, stepped, place_of, FitsAccess, IsCourse, IsMoved, IsNoLook, IsReady, IsStepOf, RunsOf, progress_of};
 ghost use Rattle.mt_seq.specs.declared.sequence.Job.{Job};
 
-use crate::access::Access;
+use crate::access::{Access, access_of, word_of};
 use crate::sequence::{Frame, Slice, verdict_from};
+use crate::span::{Base, Ground, each_cell, galpat_base, on_cells, walk_base};
 use crate::stepper::Progress;
 use arrayvec::ArrayVec;
-use mt_plan::{Act, Algorithm, Policy, Steps, steps};
+use mt_plan::{Algorithm, Line, Policy, Steps, spans_are_counted, steps};
 use mt_port::Port;
-use mt_word::{Width, flip};
+use mt_word::Width;
 
 /// One sequence, as far as it was made: first the saving reads, then the algorithm's accesses from `testing_from` on, and
 /// from `ending_from` on the writes that end it. Each call takes the same algorithm and the same frame.
@@ -175,7 +177,7 @@ impl Course {
         let step = self.steps.peek(alg);
         let addr = self.slice.first + u32::from(step.cell);
         let back = self.back(frame, step.cell);
-        access_of(width, addr, back, step.act)
+        access_of(addr, word_of(width, back, step.act), step.act)
     }
 
     /// The next of the writes that end the sequence.
@@ -306,6 +308,109 @@ impl Course {
         self.tested(alg, access, answer);
     }
 
+    /// Whether the algorithm's next accesses are a span of at most so many.
+    #[inline(always)]
+    fn fits_span(&self, alg: &Algorithm, most: u32) -> bool
+        requires cursor { IsCursor alg.now self.now.steps }
+        requires left { made_by self.now.steps < length (steps_of alg.now (cells_of self.now.steps)) }
+        ensures begins { result ≡ true → begins_span self.now.steps ≡ true }
+        ensures next { result ≡ true → Continues (steps_of alg.now (cells_of self.now.steps)) (made_by self.now.steps) (span_of self.now.steps) }
+        ensures some { result ≡ true → 1 ≤ length (span_of self.now.steps) }
+        ensures fits { result ≡ true → length (span_of self.now.steps) ≤ most }
+    {
+        self.steps.begins_span(alg) && self.steps.span_len(alg) <= most
+    }
+
+    /// Makes the accesses of a span, and answers whether each read answered its word.
+    #[inline(always)]
+    fn make_span<P: Port>(&self, port: &mut P, alg: &Algorithm, frame: Frame, width: Width) -> bool
+        requires course { IsCourse (job_of alg.now frame) self.now }
+        requires ready { IsReady (P.state port.old) (view_of (job_of alg.now frame) self.now) (length (span_of self.now.steps)) }
+        requires width { width ≡ (P.state port.old).shape.width }
+        requires from { self.now.testing_from ≤ self.now.made }
+        requires to { self.now.made < self.now.ending_from }
+        ensures { Makes (map (item_of width self.now.slice.first (back_of (job_of alg.now frame) self.now.saved.items)) (span_of self.now.steps))
+            (P.state port.old) (P.state port.new) (P.tape port.old) (P.tape port.new) result }
+    {
+        spans_are_counted();
+        let ground = Ground {
+            first: self.slice.first,
+            n: self.slice.n,
+            width,
+            background: frame.background,
+            transparent: self.transparent,
+        };
+        let saved = self.saved.as_slice();
+        match self.steps.line(alg) {
+            Line::EachCell { even, odd } => each_cell(port, ground, saved, even, odd),
+            Line::OnCell { .. } => on_cells(port, ground, self.steps.element()),
+            Line::WalkBase { flipped, base } => {
+                let base = Base {
+                    cell: base as u8,
+                    flipped,
+                };
+                walk_base(port, ground, saved, base)
+            }
+            Line::GalpatBase { flipped, base } => {
+                let base = Base {
+                    cell: base as u8,
+                    flipped,
+                };
+                galpat_base(port, ground, saved, base)
+            }
+        }
+    }
+
+    /// Makes the algorithm's next accesses, which are a span.
+    #[inline(always)]
+    fn test_span<P: Port>(&mut self, port: &mut P, alg: &Algorithm, frame: Frame, width: Width)
+        requires course { IsCourse (job_of alg.now frame) self.old }
+        requires ready { IsReady (P.state port.old) (view_of (job_of alg.now frame) self.old) (length (span_of self.old.steps)) }
+        requires width { width ≡ (P.state port.old).shape.width }
+        requires from { self.old.testing_from ≤ self.old.made }
+        requires to { self.old.made + length (span_of self.old.steps) ≤ self.old.ending_from }
+        requires some { 1 ≤ length (span_of self.old.steps) }
+        requires begins { begins_span self.old.steps ≡ true }
+        requires next { Continues (steps_of alg.now (cells_of self.old.steps)) (made_by self.old.steps) (span_of self.old.steps) }
+        ensures course { IsCourse (job_of alg.now frame) self.new }
+        ensures runs { RunsOf (job_of alg.now frame) self.old (P.state port.old) (P.tape port.old) self.new (P.state port.new) (P.tape port.new) }
+        ensures made { self.new.made ≡ self.old.made + length (span_of self.old.steps) }
+    {
+        let good = self.make_span(port, alg, frame, width);
+        let count = self.steps.span_len(alg);
+        self.steps.pass_span(alg);
+        self.differs |= !good;
+        self.made += count;
+    }
+
+    /// Makes a span of the algorithm's accesses, or one, where so many accesses are not made yet.
+    #[inline(always)]
+    pub fn test_some<P: Port>(
+        &mut self,
+        port: &mut P,
+        alg: &Algorithm,
+        frame: Frame,
+        width: Width,
+        until: u32,
+    )
+        requires course { IsCourse (job_of alg.now frame) self.old }
+        requires ready { IsReady (P.state port.old) (view_of (job_of alg.now frame) self.old) (until - self.old.made) }
+        requires width { width ≡ (P.state port.old).shape.width }
+        requires from { self.old.testing_from ≤ self.old.made }
+        requires left { self.old.made < until }
+        requires to { until ≤ self.old.ending_from }
+        ensures course { IsCourse (job_of alg.now frame) self.new }
+        ensures runs { RunsOf (job_of alg.now frame) self.old (P.state port.old) (P.tape port.old) self.new (P.state port.new) (P.tape port.new) }
+        ensures more { self.old.made < self.new.made }
+        ensures to { self.new.made ≤ until }
+    {
+        if self.fits_span(alg, until - self.made) {
+            self.test_span(port, alg, frame, width);
+        } else {
+            self.test_one(port, alg, frame, width);
+        }
+    }
+
     /// Makes the next of the writes that end the sequence.
     #[inline(always)]
     pub fn end_one<P: Port>(&mut self, port: &mut P, alg: &Algorithm, frame: Frame)
@@ -337,29 +442,5 @@ impl Course {
         } else {
             self.end_one(port, alg, frame);
         }
-    }
-}
-
-/// A step as an access, where `back` is the background word.
-#[inline(always)]
-fn access_of(width: Width, addr: u32, back: u64, act: Act) -> Access
-    requires { Fits width back }
-    ensures item { item_of_access result ≡ act_on width addr back act }
-    ensures kind { IsNoLook (item_of_access result) }
-    ensures addr { place_of result ≡ addr }
-    ensures fits { FitsAccess width result }
-{
-    let flipped = flip(width, back);
-    match act {
-        Act::WritePlain => Access::Store { addr, word: back },
-        Act::WriteFlipped => Access::Store {
-            addr,
-            word: flipped,
-        },
-        Act::ReadPlain => Access::Check { addr, word: back },
-        Act::ReadFlipped => Access::Check {
-            addr,
-            word: flipped,
-        },
     }
 }

@@ -1,7 +1,7 @@
 //! Laws of sequences.
 
 ghost use Rattle.mt_seq.specs.Laws.{SoundMemoryPasses, SoundMemoryStays, CaughtFaultsFail, SequencesAreShort, HoldsAreLengths, ComparisonsArePairs, NothingIsFoundWhereAllEqual};
-ghost use Rattle.mt_seq.specs.Laws.{SequencesBegin, SequencesGoOn, SequencesEnd, AttemptsAreCounted, AttemptsAreShort, DroppedAttemptsServe, DroppedAttemptsStay, UrgentWaitsAreShort, WholeAttemptsPass};
+ghost use Rattle.mt_seq.specs.Laws.{SequencesBegin, SequencesGoOn, SequencesEnd, AttemptsAreCounted, AttemptsAreShort, AttemptsAreTold, NoAttemptIsEmpty, DroppedAttemptsServe, DroppedAttemptsStay, UrgentWaitsAreShort, WholeAttemptsPass};
 
 /// On sound memory each sequence passes, and the words stay as they were, or the fill is left.
 pub fn sound_memory()
@@ -37,10 +37,12 @@ pub fn attempts_on_sound_memory()
     ensures passes { WholeAttemptsPass }
 {}
 
-/// How long an attempt is, and that it is no longer than its sequence.
+/// How long an attempt is, that it is no longer than its sequence and never empty, and that a tape tells all of it.
 pub fn attempts_are_counted()
     ensures count { AttemptsAreCounted }
     ensures short { AttemptsAreShort }
+    ensures some { NoAttemptIsEmpty }
+    ensures told { AttemptsAreTold }
 {}
 
 /// Where an attempt is dropped an urgent request is due, and none that falls due in an attempt waits longer than the slice has words.

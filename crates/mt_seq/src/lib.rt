@@ -8,6 +8,7 @@ mod course;
 mod laws;
 mod run;
 mod sequence;
+mod span;
 mod stepper;
 
 pub use access::Access;

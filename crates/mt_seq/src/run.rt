@@ -37,7 +37,7 @@ impl Course {
     {
         let width = port.shape().width;
         while self.made() < until {
-            self.test_one(port, alg, frame, width);
+            self.test_some(port, alg, frame, width, until);
         }
     }
 

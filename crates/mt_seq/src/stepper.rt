@@ -1,6 +1,6 @@
 //! A sequence that is made one access at a time.
 
-ghost use Rattle.std.specs.Prelude.{◌≡◌, ◌<◌, ◌≤◌, ◌+◌, ◌-◌, ◌^◌, ℕ, [], Some, true, length, All, ◌&&◌, nat_lt, if◌then◌else◌};
+ghost use Rattle.std.specs.Prelude.{◌≡◌, ◌≢◌, ◌<◌, ◌≤◌, ◌+◌, ◌-◌, ◌^◌, ℕ, [], Some, true, length, All, ◌&&◌, nat_lt, if◌then◌else◌};
 ghost use Rattle.mt_word.specs.Word.{Fits};
 ghost use Rattle.mt_fault.specs.Items.{Item, passes};
 ghost use Rattle.mt_plan.specs.Plan.{IsAccepted, steps_of};
@@ -174,6 +174,69 @@ mod tests {
         (early, last)
     }
 
+    /// Makes accesses until so many are made, and gives the attempt up where it may be; the second answer is then how many
+    /// words were written back.
+    fn run_and_give_up<P: Port>(
+        port: &mut P,
+        stepper: Stepper,
+        until: u32,
+    ) -> (Progress, Option<u32>)
+        requires ready { IsReady (P.state port.old) stepper (until + stepper.slice.n) }
+        requires begun { stepper.made ≡ 0 }
+        requires to { until ≤ sequence_hold stepper.job stepper.slice.n }
+    {
+        let mut stepper = stepper;
+        let progress = stepper.run(port, until);
+        if stepper.can_back_out() {
+            (progress, Some(stepper.back_out(port)))
+        } else {
+            (progress, None)
+        }
+    }
+
+    fn march_job() -> Job
+        ensures accepted { IsAccepted result.alg }
+        ensures policy { result.policy ≡ Policy.NonDestructive }
+        ensures background { result.background ≡ 0 }
+        ensures fill { result.fill ≡ 0 }
+        ensures kept { is_transparent result.alg ≢ true }
+    {
+        Job {
+            alg: Algorithm::March(march_c_minus()),
+            policy: Policy::NonDestructive,
+            background: 0,
+            fill: 0,
+        }
+    }
+
+    #[test]
+    #[tactic(auto, unfolding(mt_port::specs::Board::powered_up))]
+    fn an_attempt_is_given_up(rt: HostRuntime) -> Result<(), Fail> {
+        let shape = Shape {
+            width: Width::W8,
+            ram: 10,
+            flash: 0,
+        };
+        let mut board = PlainBoard::new(rt.alloc(), shape, 0).ok().ok_or("memory")?;
+        let job = march_job();
+        let hold = hold_of(&job.alg, job.policy, 2);
+        let stepper = Stepper::new(job, Slice { first: 8, n: 2 });
+        board.hold();
+        let answers = run_and_give_up(&mut board, stepper, hold / 2);
+        assert_eq!(rt; answers, (Progress::More, Some(2)));
+        assert_eq!(rt; board.made(), 14);
+        Ok(())
+    }
+
+    #[test]
+    fn a_first_access_is_answered(rt: HostRuntime) {
+        let mut stepper = Stepper::new(march_job(), Slice { first: 8, n: 2 });
+        let access = stepper.next(Width::W8);
+        assert_eq!(rt; access, Access::Look { addr: 8 });
+        assert_eq!(rt; stepper.answered(Width::W8, 5), Progress::More);
+        assert_eq!(rt; stepper.made(), 1);
+    }
+
     #[test]
     #[tactic(auto, unfolding(mt_port::specs::Board::powered_up))]
     fn march_c_minus_access_by_access(rt: HostRuntime) -> Result<(), Fail> {
@@ -183,12 +246,7 @@ mod tests {
             flash: 0,
         };
         let mut board = PlainBoard::new(rt.alloc(), shape, 0).ok().ok_or("memory")?;
-        let job = Job {
-            alg: Algorithm::March(march_c_minus()),
-            policy: Policy::NonDestructive,
-            background: 0,
-            fill: 0,
-        };
+        let job = march_job();
         let hold = hold_of(&job.alg, job.policy, 2);
         let mut stepper = Stepper::new(job, Slice { first: 8, n: 2 });
         board.hold();

@@ -9,7 +9,8 @@ use Rattle.mt_fault.specs.declared.fault.Spot.{Spot}
 use Rattle.mt_fault.specs.Placement.{IsSpot}
 use Rattle.mt_port.specs.declared.board.Shape.{Shape}
 use Rattle.mt_text.specs.declared.request.Mark.{Mark}
-use Rattle.mt_text.specs.Tokens.{number_of, hex_of, spot_of, begins_word, decimal, is_digit, has_leading_zero}
+use Rattle.mt_hex.specs.Hex.{hex_of, is_digit}
+use Rattle.mt_text.specs.Tokens.{number_of, spot_of, begins_word, decimal, has_leading_zero}
 use Rattle.mt_text.specs.Forms.{Form, done, none, row, barred, value, spot, mark, Slot, Num, Addr, FlashAddr, OtherAddr, Data, Bit, SpotSlot, RamSpot, OtherSpot, FlashSpot, step, mapped, value_at, word_at, spot_at, spot_word_at, mark_at, begins_mark, begins_urgent, broken_if, spelled, mapped_ok}
 use Rattle.mt_text.specs.declared.line.LineKind.{LineKind}
 use Rattle.mt_text.specs.declared.line.LineKind.TheVariants.{Spelling, Address, WordTooWide, OffsetsFall, TooManyRequests, FaultRefused}

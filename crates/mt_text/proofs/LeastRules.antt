@@ -13,7 +13,8 @@ use Rattle.mt_text.specs.declared.request.Mark.{Mark}
 use Rattle.mt_text.specs.declared.line.LineKind.{LineKind}
 use Rattle.mt_text.specs.declared.line.LineKind.TheVariants.{Spelling, Number, Address, WordTooWide, OffsetsFall, TooManyRequests, TooManyOps, NotInHandler, FaultRefused}
 use Rattle.mt_text.specs.declared.line.LineRefusal.{LineRefusal}
-use Rattle.mt_text.specs.Tokens.{Token, begins_word, number_of, hex_of, spot_of}
+use Rattle.mt_hex.specs.Hex.{hex_of}
+use Rattle.mt_text.specs.Tokens.{Token, begins_word, number_of, spot_of}
 use Rattle.mt_text.specs.Forms.{Form, done, none, row, barred, value, spot, mark, Slot, Num, Addr, FlashAddr, OtherAddr, Data, Bit, SpotSlot, RamSpot, OtherSpot, FlashSpot, bit_of, begins_mark, begins_urgent, step, mapped, mapped_ok, value_at, word_at, spot_at, spot_word_at, mark_at, broken_if, spelled}
 use Rattle.mt_text.specs.Lines.{Part, Start, Ended, Requests, Handler, Open, Operation, Separator, op_form, app_op, is_op_word, settled, FirstBroken}
 use Rattle.mt_text.specs.TokenRules.{kind_number, Rule, holds, spelled_in, is_outside, is_too_wide, is_first_address, value_rules, size_of, is_first_word, spot_rules, mark_rules, other_module, operation_rules, form_rules, token_rules, Breaks, IsLeastBroken, BreaksNone}

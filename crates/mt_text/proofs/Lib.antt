@@ -7,7 +7,6 @@ pub mod Numbers
 pub mod Accepts
 pub mod Sound
 pub mod Parts
-pub mod HexLemmas
 pub mod PieceLemmas
 pub mod Pieces
 pub mod Leading

@@ -19,7 +19,8 @@ use Rattle.mt_text.specs.declared.line.LineKind.{LineKind}
 use Rattle.mt_text.specs.declared.line.LineRefusal.{LineRefusal}
 use Rattle.std.proofs.lemmas.List.{append-nil}
 use Rattle.mt_text.specs.declared.line.LineKind.TheVariants.{Spelling, Address, FaultRefused, WordTooWide, OffsetsFall, TooManyRequests, TooManyOps, NotInHandler}
-use Rattle.mt_text.specs.Tokens.{Token, begins_word, number_of, hex_of, spot_of}
+use Rattle.mt_hex.specs.Hex.{hex_of}
+use Rattle.mt_text.specs.Tokens.{Token, begins_word, number_of, spot_of}
 use Rattle.mt_text.specs.Forms.{Form, done, none, row, barred, value, spot, mark, Slot, Num, Addr, FlashAddr, OtherAddr, Data, Bit, SpotSlot, RamSpot, OtherSpot, FlashSpot, step, mapped, mapped_ok, value_at, word_at, spot_at, spot_word_at, mark_at, begins_mark, begins_urgent, broken_if, spelled, bit_of}
 use Rattle.mt_text.specs.RamServices.{ram_call, ram_handler_call}
 use Rattle.mt_text.specs.FlsServices.{fls_call, fls_handler_call}

@@ -283,6 +283,9 @@ continues_at shape end end2 r p rest ts q all e h k =
 pub at_end_of : (shape : Shape) (end end2 : ℕ) (p : Part) (ts : List Token) (r : Result Line LineRefusal) → end2 ≡ end → At shape end2 p ts ≡ r → At shape end p ts ≡ r
 at_end_of shape end end2 p ts r e h = subst (λ (n : ℕ). At shape n p ts ≡ r) e h
 
+pub continues_end : {X : Type 0} (shape : Shape) (end end2 : ℕ) (r : Result X LineRefusal) (more : X → Result Line LineRefusal) (p : Part) (ts : List Token) → end2 ≡ end → Continues r more (At shape end2 p ts) → Continues r more (At shape end p ts)
+continues_end shape end end2 r more p ts e h = subst (λ (n : ℕ). Continues r more (At shape n p ts)) e h
+
 pub start_err : (shape : Shape) (end : ℕ) (t : Token) (ts : List Token) (e : LineRefusal) → read shape end event (t ∷ ts) ≡ Err e → At shape end Start (t ∷ ts) ≡ Err e
 start_err shape end t ts e h = start_token shape end t ts ∙ ap (AfterMapped shape end follows) h
 

@@ -5,7 +5,8 @@ use Rattle.std.proofs.lemmas.Bool.Decides.{nat_tests}
 use Rattle.std.proofs.lemmas.List.{length-map}
 use Rattle.std.specs.List.{list_all}
 use Rattle.std.specs.Fmt.{decimal as text}
-use Rattle.mt_text.specs.Tokens.{is_digit, decimal, has_leading_zero, number_of, is_hex, hex_digit, hex, hex_of, upper}
+use Rattle.mt_hex.specs.Hex.{is_digit, is_hex, hex_digit, hex, hex_of, upper}
+use Rattle.mt_text.specs.Tokens.{decimal, has_leading_zero, number_of}
 use Rattle.mt_text.proofs.Numbers.{both, text_back, number_of_text}
 use Rattle.mt_text.proofs.Values.{check, checked}
 

@@ -21,7 +21,7 @@ use Rattle.mt_text.specs.RamServices.{ram_call}
 use Rattle.mt_text.specs.FlsServices.{fls_call}
 use Rattle.mt_text.specs.Lines.{app_op, fault, event}
 use Rattle.mt_text.specs.Accepted.{IsRamCall, IsFlsCall, IsSoundEvent}
-use Rattle.mt_text.specs.Digits.{word_text}
+use Rattle.mt_hex.specs.Digits.{word_text}
 use Rattle.mt_text.specs.Canonical.{ram_words, fls_words, app_words, fault_words, event_words, spot_text, bit_text, direction_text, wiring_text}
 use Rattle.mt_text.proofs.Pieces.{AreWords, is_text}
 use Rattle.mt_text.proofs.Leading.{Follows, follows_mapped, value_step, spot_step}

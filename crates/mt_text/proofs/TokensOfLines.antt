@@ -26,13 +26,14 @@ use Rattle.mt_text.specs.declared.line.FlsCall.{FlsCall}
 use Rattle.mt_text.specs.declared.line.Event.{Event}
 use Rattle.mt_text.specs.declared.line.Event.TheVariants.{Nothing, Ram, Fls, TickRam, TickFls, App, Inject, Heal, Burn, Flip}
 use Rattle.mt_text.specs.declared.line.Line.{Line}
-use Rattle.mt_text.specs.Tokens.{Token, begins_word, number_of, hex_of, spot_of, point, parts, both}
+use Rattle.mt_hex.specs.Hex.{hex_of}
+use Rattle.mt_text.specs.Tokens.{Token, begins_word, number_of, spot_of, point, parts, both}
 use Rattle.mt_text.specs.Forms.{Form, done, none, row, barred, value, spot, mark, Slot, Num, Addr, FlashAddr, OtherAddr, Data, Bit, SpotSlot, RamSpot, OtherSpot, FlashSpot, bit_of, begins_mark, begins_urgent, mark_byte, step, mapped, value_at, word_at, spot_at, spot_word_at, mark_at, broken_if}
 use Rattle.mt_text.specs.Lines.{Part, Start, Ended, Requests, Handler, Open, Operation, Separator, event, app_op, fault, op_form, part_form, operation_form, request, line, follows, followed, running_module, whole, whole_at, Leads, SpellsTokens}
 use Rattle.mt_text.specs.RamServices.{ram_call, ram_handler_call}
 use Rattle.mt_text.specs.FlsServices.{fls_call, fls_handler_call}
 use Rattle.mt_text.specs.Canonical.{ram_words, fls_words, app_words_by, fault_words_by, event_words_by, call_words, spot_text, bit_text}
-use Rattle.mt_text.specs.Digits.{word_text}
+use Rattle.mt_hex.specs.Digits.{word_text}
 use Rattle.mt_text.specs.Kinds.{bytes_of}
 use Rattle.mt_text.specs.TokenRules.{spelled_in}
 use Rattle.mt_text.specs.LineTokens.{IsWriting, AreOfEvent, AreOfOp, AreOfFurther, AreOfOpened, AreOfHandler, AreOfRequests, AreOfLine}

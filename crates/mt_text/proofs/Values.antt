@@ -14,8 +14,9 @@ use Rattle.mt_fault.specs.declared.fault.Spot.{Spot}
 use Rattle.mt_fault.specs.Placement.{IsSpot}
 use Rattle.mt_port.specs.declared.board.Shape.{Shape}
 use Rattle.mt_port.specs.Board.{IsWithinLimits}
-use Rattle.mt_text.specs.Tokens.{is_word, begins_word, is_digit, is_hex, hex_digit, hex, hex_of, number_of, point, parts, both as both_numbers, spot_of}
-use Rattle.mt_text.specs.Digits.{digit_byte, hex_text, word_text}
+use Rattle.mt_hex.specs.Hex.{is_digit, is_hex, hex_digit, hex, hex_of}
+use Rattle.mt_text.specs.Tokens.{is_word, begins_word, number_of, point, parts, both as both_numbers, spot_of}
+use Rattle.mt_hex.specs.Digits.{digit_byte, hex_text, word_text}
 use Rattle.mt_text.specs.Canonical.{spot_text, bit_text}
 use Rattle.mt_text.specs.Forms.{Num, Addr, FlashAddr, OtherAddr, Data, Bit, RamSpot, OtherSpot, FlashSpot, mark_byte}
 use Rattle.mt_text.specs.Accepted.{IsNumber}

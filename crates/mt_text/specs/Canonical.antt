@@ -26,7 +26,7 @@ use Rattle.mt_text.specs.declared.names.FlsService.TheVariants as fls_service
 use Rattle.mt_text.specs.Forms.{mark_byte}
 use Rattle.mt_text.specs.RamServices.{ram_name}
 use Rattle.mt_text.specs.FlsServices.{fls_name}
-use Rattle.mt_text.specs.Digits.{word_text}
+use Rattle.mt_hex.specs.Digits.{word_text}
 
 -- ---- the words of an event
 

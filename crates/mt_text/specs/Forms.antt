@@ -1,7 +1,8 @@
 -- Forms of lines: what may stand at each place, and which value comes of it.
 use Rattle.std.specs.Prelude.{ℕ, ◌^◌, ◌==◌, ◌||◌, nat_lt, nat_le, not, Bool, true, false, if◌then◌else◌, List, [], ◌∷◌, drop, codes, Option, Some, None, Result, Ok, Err}
 use Rattle.std.specs.Str.{bytes_eq}
-use Rattle.mt_text.specs.Tokens.{begins_word, number_of, hex_of, spot_of}
+use Rattle.mt_hex.specs.Hex.{hex_of}
+use Rattle.mt_text.specs.Tokens.{begins_word, number_of, spot_of}
 use Rattle.mt_port.specs.declared.board.Shape.{Shape}
 use Rattle.mt_word.specs.Word.{width_bits}
 use Rattle.mt_fault.specs.declared.fault.Spot.{Spot}

@@ -5,7 +5,6 @@ pub mod RamServices
 pub mod FlsServices
 pub mod Lines
 pub mod Accepted
-pub mod Digits
 pub mod Trace
 pub mod Canonical
 pub mod Kinds

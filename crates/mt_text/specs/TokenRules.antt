@@ -7,7 +7,8 @@ use Rattle.mt_port.specs.declared.request.Module.{Module}
 use Rattle.mt_port.specs.declared.request.Module.TheVariants.{RamTst, FlsTst}
 use Rattle.mt_text.specs.declared.line.LineKind.{LineKind}
 use Rattle.mt_text.specs.declared.line.LineKind.TheVariants.{Spelling, Number, Address, WordTooWide, OffsetsFall, TooManyRequests, TooManyOps, NotInHandler, FaultRefused}
-use Rattle.mt_text.specs.Tokens.{begins_word, number_of, hex_of, spot_of}
+use Rattle.mt_hex.specs.Hex.{hex_of}
+use Rattle.mt_text.specs.Tokens.{begins_word, number_of, spot_of}
 use Rattle.mt_text.specs.Forms.{Form, done, none, row, barred, value, spot, mark, Slot, Addr, FlashAddr, OtherAddr, Data, Bit, SpotSlot, RamSpot, OtherSpot, FlashSpot, bit_of, begins_mark}
 use Rattle.mt_text.specs.Lines.{Part, Open, Operation, is_op_word, settled}
 

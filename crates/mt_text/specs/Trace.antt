@@ -18,7 +18,7 @@ use Rattle.mt_window.specs.declared.reply.AlgorithmName.{AlgorithmName}
 use Rattle.mt_window.specs.declared.reply.AlgorithmName.TheVariants as algorithm
 use Rattle.mt_window.specs.declared.reply.Detail.{Detail}
 use Rattle.mt_window.specs.declared.reply.Detail.TheVariants as detail
-use Rattle.mt_text.specs.Digits.{word_text}
+use Rattle.mt_hex.specs.Digits.{word_text}
 
 -- the states
 abbrev pub state_name : ShownState → List ℕ

@@ -6,8 +6,8 @@ ghost use Rattle.mt_port.specs.Causes.{HasCause};
 ghost use Rattle.mt_port.specs.Streams.{AppendsFront};
 ghost use Rattle.mt_text.specs.Trace.{state_name, result_name, algorithm_name, refusal_text, identifier_text, detail_text, value_text, reply_text, shown_entry, entry_text};
 
-use crate::text::{push_bytes, push_number, push_word};
 use arrayvec::ArrayVec;
+use mt_hex::{push_bytes, push_number, push_word};
 use mt_port::{Failed, Sink, put};
 use mt_window::{AlgorithmName, Detail, Entry, Refusal, Reply, ShownState, TestResult, Value};
 use mt_word::Width;

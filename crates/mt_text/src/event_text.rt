@@ -1,7 +1,7 @@
 //! The canonical text of an event and of a handler's operation.
 
 ghost use Rattle.std.specs.Prelude.{◌≡◌, ◌≤◌, ◌+◌, ◌++◌, ◌∷◌, [], true, false, codes, decimal, length};
-ghost use Rattle.mt_text.specs.Digits.{word_text};
+ghost use Rattle.mt_hex.specs.Digits.{word_text};
 ghost use Rattle.mt_text.specs.RamServices.{ram_name};
 ghost use Rattle.mt_text.specs.FlsServices.{fls_name};
 ghost use Rattle.mt_text.specs.declared.names.RamService.TheVariants.{GetTestResultPerBlock};
@@ -9,9 +9,9 @@ ghost use Rattle.mt_text.specs.Canonical.{ram_parts, fls_parts, argument, ram_wo
 
 use crate::line::{Event, FlsCall, RamCall};
 use crate::names::{FlsService, RamService};
-use crate::text::{push_bytes, push_number, push_word};
 use arrayvec::ArrayVec;
 use mt_fault::{Fault, Spot};
+use mt_hex::{push_bytes, push_number, push_word};
 use mt_port::{AppOp, HandlerCall, HandlerOp};
 use mt_word::Width;
 

@@ -13,20 +13,19 @@ mod line_text;
 mod names;
 mod reading;
 mod request;
-mod text;
 mod token;
 mod value;
 
 pub use entry::{entry_text, write_entry};
+pub use event_text::LineText;
 pub use laws::{
     canonical_lines_spell_themselves, numbers_have_one_spelling, one_line, reading_is_spelling,
     spelled_lines_are_accepted, spelled_lines_have_their_tokens, spelling_is_a_token_of_no_line,
     the_least_rule_is_told, trace_lines_stand_in_order, words_have_hexadecimal_digits,
 };
 pub use line::{Event, FlsCall, Line, LineKind, LineRefusal, RamCall};
-pub use line_text::write_line;
+pub use line_text::{push_line, write_line};
 pub use reading::read_line;
-pub use text::{push_bytes, push_number, push_word};
 pub use token::number_of;
 
 #[cfg(test)]

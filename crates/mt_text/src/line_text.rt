@@ -8,8 +8,8 @@ ghost use Rattle.mt_text.specs.Canonical.{text_of, further_ops, handler_pieces, 
 
 use crate::event_text::{LineText, push_event, push_op};
 use crate::line::Line;
-use crate::text::{push_bytes, push_number};
 use arrayvec::ArrayVec;
+use mt_hex::{push_bytes, push_number};
 use mt_port::{Failed, HandlerOp, Request, Shape, Sink, put};
 use mt_word::Width;
 
@@ -61,25 +61,25 @@ fn push_requests(out: &mut LineText, width: Width, requests: &[Request])
     }
 }
 
-/// The canonical text of a line, with a line feed.
+/// Appends the canonical text of a line, with a line feed, to an empty text.
 #[tactic(auto, unfolding(crate::specs::Canonical::canonical))]
-pub fn line_text(line: &Line, width: Width) -> LineText
-    ensures { result.items ≡ canonical width line.now ++ codes "\n" }
+pub fn push_line(out: &mut LineText, line: &Line, width: Width)
+    requires { out.old.items ≡ [] }
+    ensures { out.new.items ≡ canonical width line.now ++ codes "\n" }
 {
-    let mut out = ArrayVec::new();
-    push_event(&mut out, width, line.event);
-    push_requests(&mut out, width, line.requests.as_slice());
+    push_event(out, width, line.event);
+    push_requests(out, width, line.requests.as_slice());
     out.push(b'\n');
-    out
 }
 
-/// Writes the canonical text of a line, with a line feed, by one call of `put`. Of the shape the width alone matters:
-/// words are written in width divided by 4 digits.
+/// Writes the canonical text of a line, with a line feed. Of the shape the width alone matters: words are written in
+/// width divided by 4 digits.
 pub fn write_line<K: Sink>(line: &Line, shape: Shape, sink: &mut K) -> Result<(), Failed>
     ensures ok { OnOk result (Appends (K.held sink.old) (K.held sink.new) (canonical shape.width line.now ++ codes "\n")) }
     ensures err { OnErr result (AppendsFront (K.held sink.old) (K.held sink.new) (canonical shape.width line.now ++ codes "\n")) }
     ensures cause { HasCause (K.faults sink.old) (K.faults sink.new) result }
 {
-    let text = line_text(line, shape.width);
+    let mut text = ArrayVec::new();
+    push_line(&mut text, line, shape.width);
     put(sink, &text)
 }

@@ -1,6 +1,6 @@
 //! The reader of a line.
 
-ghost use Rattle.std.specs.Prelude.{◌≡◌, ◌≤◌, ◌+◌, ◌<◌, ◌∷◌, ℕ, [], length, Ok, Err, IfOk, IfErr};
+ghost use Rattle.std.specs.Prelude.{◌≡◌, ◌≤◌, ◌+◌, ◌<◌, ◌∷◌, [], length, Ok, Err, OnOk, IfOk, IfErr};
 ghost use Rattle.mt_text.specs.Tokens.{tokens};
 ghost use Rattle.mt_text.specs.Forms.{done};
 ghost use Rattle.mt_text.specs.Lines.{run, Start, Requests, Ended, follows, line, begins_comment, running_module, line_of, Spells, Refuses};
@@ -20,27 +20,28 @@ use mt_port::{Module, Request, Shape};
 
 /// Reads the requests behind a running event.
 fn requests(
+    out: &mut ArrayVec<Request, 16>,
     callee: Module,
     shape: Shape,
     cursor: &mut Cursor<'_>,
-) -> Result<ArrayVec<Request, 16>, LineRefusal>
-    ensures { (ev : Event) → Continues result (λ rs. Ok (line ev rs.items)) (run shape (end_of cursor.old) (done (Requests callee ev [])) (left cursor.old)) }
+) -> Result<(), LineRefusal>
+    requires { out.old.items ≡ [] }
+    ensures { (ev : Event) → Continues result (λ _. Ok (line ev out.new.items)) (run shape (end_of cursor.old) (done (Requests callee ev [])) (left cursor.old)) }
 {
-    let mut requests = ArrayVec::new();
     let mut last = 0;
     while !cursor.is_at_end() {
-        last = one_request(&mut requests, last, callee, shape, cursor)?;
+        last = one_request(out, last, callee, shape, cursor)?;
     }
-    Ok(requests)
+    Ok(())
 }
 
 /// Nothing may follow an event that doesn't run.
-fn nothing(cursor: &mut Cursor<'_>, shape: Shape) -> Result<ArrayVec<Request, 16>, LineRefusal>
-    ensures { (ev : Event) → Continues result (λ rs. Ok (line ev rs.items)) (run shape (end_of cursor.old) (done (Ended ev)) (left cursor.old)) }
+fn nothing(cursor: &mut Cursor<'_>, shape: Shape) -> Result<(), LineRefusal>
+    ensures { (ev : Event) → Continues result (λ _. Ok (line ev [])) (run shape (end_of cursor.old) (done (Ended ev)) (left cursor.old)) }
 {
     match cursor.next() {
         Ok(token) => refused(LineKind::Spelling, token.place),
-        Err(_) => Ok(ArrayVec::new()),
+        Err(_) => Ok(()),
     }
 }
 
@@ -59,25 +60,33 @@ fn running_module(event: &Event) -> Option<Module>
 
 /// Reads what follows an event.
 fn behind_event(
+    out: &mut ArrayVec<Request, 16>,
     event: &Event,
     shape: Shape,
     cursor: &mut Cursor<'_>,
-) -> Result<ArrayVec<Request, 16>, LineRefusal>
-    ensures { Continues result (λ rs. Ok (line event.now rs.items)) (run shape (end_of cursor.old) (done (follows event.now)) (left cursor.old)) }
+) -> Result<(), LineRefusal>
+    requires { out.old.items ≡ [] }
+    ensures { Continues result (λ _. Ok (line event.now out.new.items)) (run shape (end_of cursor.old) (done (follows event.now)) (left cursor.old)) }
 {
     match running_module(event) {
-        Some(callee) => requests(callee, shape, cursor),
+        Some(callee) => requests(out, callee, shape, cursor),
         None => nothing(cursor, shape),
     }
 }
 
 /// Reads a line from its first word on.
-fn from_word(word: &Token<'_>, shape: Shape, cursor: &mut Cursor<'_>) -> Result<Line, LineRefusal>
-    ensures { run shape (end_of cursor.old) (done Start) (token_view word.now ∷ left cursor.old) ≡ result }
+fn from_word(
+    out: &mut ArrayVec<Request, 16>,
+    word: &Token<'_>,
+    shape: Shape,
+    cursor: &mut Cursor<'_>,
+) -> Result<Event, LineRefusal>
+    requires { out.old.items ≡ [] }
+    ensures { Continues result (λ ev. Ok (line ev out.new.items)) (run shape (end_of cursor.old) (done Start) (token_view word.now ∷ left cursor.old)) }
 {
     let event = event(word, shape, cursor)?;
-    let requests = behind_event(&event, shape, cursor)?;
-    Ok(Line { event, requests })
+    behind_event(out, &event, shape, cursor)?;
+    Ok(event)
 }
 
 fn begins_comment(word: &Token<'_>) -> bool
@@ -89,28 +98,58 @@ fn begins_comment(word: &Token<'_>) -> bool
     }
 }
 
-/// Reads a line as the table has it.
-fn line_of(text: &[u8], shape: Shape) -> Result<Line, LineRefusal>
-    requires { length text.now ≤ 1024 }
-    ensures { line_of shape text.now ≡ result }
+/// Reads the event of a line, and its requests, as the table has them.
+fn event_of(
+    out: &mut ArrayVec<Request, 16>,
+    text: &[u8],
+    shape: Shape,
+) -> Result<Event, LineRefusal>
+    requires none { out.old.items ≡ [] }
+    requires short { length text.now ≤ 1024 }
+    ensures { Continues result (λ ev. Ok (line ev out.new.items)) (line_of shape text.now) }
 {
     let mut cursor = Cursor {
         place: 1,
         rest: text,
     };
     match cursor.next() {
-        Err(_) => Ok(Line {
-            event: Event::Nothing,
-            requests: ArrayVec::new(),
-        }),
+        Err(_) => Ok(Event::Nothing),
         Ok(word) => {
             if begins_comment(&word) {
-                return Ok(Line {
-                    event: Event::Nothing,
-                    requests: ArrayVec::new(),
-                });
+                return Ok(Event::Nothing);
             }
-            from_word(&word, shape, &mut cursor)
+            from_word(out, &word, shape, &mut cursor)
+        }
+    }
+}
+
+impl Line {
+    /// The line that asks for nothing.
+    pub fn new() -> Line
+        ensures event { result.event ≡ Event.Nothing }
+        ensures requests { result.requests.items ≡ [] }
+    {
+        Line {
+            event: Event::Nothing,
+            requests: ArrayVec::new(),
+        }
+    }
+
+    /// Becomes what a text spells, so that a line read before gives its room to the next; or answers the refusal of
+    /// `read_line`, and is then any line.
+    pub fn read(&mut self, text: &[u8], shape: Shape) -> Result<(), LineRefusal>
+        requires { length text.now ≤ 1024 }
+        ensures ok { OnOk result (line_of shape text.now ≡ Ok self.new) }
+        ensures err { IfErr result (λ refusal. line_of shape text.now ≡ Err refusal) }
+        ensures accepted { OnOk result (IsAccepted shape self.new) }
+    {
+        self.requests.clear();
+        match event_of(&mut self.requests, text, shape) {
+            Ok(event) => {
+                self.event = event;
+                Ok(())
+            }
+            Err(refusal) => Err(refusal),
         }
     }
 }
@@ -124,5 +163,9 @@ pub fn read_line(text: &[u8], shape: Shape) -> Result<Line, LineRefusal>
     ensures err { IfErr result (λ refusal. Refuses shape text.now refusal) }
     ensures accepted { IfOk result (λ line. IsAccepted shape line) }
 {
-    line_of(text, shape)
+    let mut line = Line::new();
+    match line.read(text, shape) {
+        Ok(()) => Ok(line),
+        Err(refusal) => Err(refusal),
+    }
 }

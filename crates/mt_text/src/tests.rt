@@ -1,6 +1,7 @@
 use super::*;
-use crate::line_text::line_text;
+use crate::line_text::push_line;
 use crate::token::number_of;
+use arrayvec::ArrayVec;
 use mt_port::Shape;
 use mt_window::{AlgorithmName, Detail, Entry, Refusal, Reply, ShownState, TestResult, Value};
 use mt_word::Width;
@@ -360,7 +361,8 @@ fn is_spelled(text: &[u8], shape: Shape, canonical: &[u8]) -> bool {
     }
     match read_line(text, shape) {
         Ok(line) => {
-            let written = line_text(&line, shape.width);
+            let mut written = ArrayVec::new();
+            push_line(&mut written, &line, shape.width);
             written.as_slice().strip_suffix(b"\n") == Some(canonical)
         }
         Err(_) => false,

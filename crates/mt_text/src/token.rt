@@ -2,7 +2,8 @@
 
 ghost use Rattle.std.specs.Prelude.{◌≡◌, ◌<◌, ◌≤◌, ◌+◌, true, length, IfSome};
 ghost use Rattle.std.specs.List.{list_all};
-ghost use Rattle.mt_text.specs.Tokens.{is_word, skip, word_len, token_len, has_leading_zero, is_digit, decimal, number_of, is_hex, hex_digit, hex, hex_of, both, point, spot_of};
+ghost use Rattle.mt_hex.specs.Hex.{is_digit};
+ghost use Rattle.mt_text.specs.Tokens.{is_word, skip, word_len, token_len, has_leading_zero, decimal, number_of, both, point, spot_of};
 
 /// A token, and the place of its first byte.
 #[derive(Clone, Copy)]
@@ -99,58 +100,6 @@ pub fn number_of(bytes: &[u8]) -> Option<u32>
     } else {
         None
     }
-}
-
-fn is_hex(byte: u8) -> bool
-    ensures { result ≡ is_hex byte }
-{
-    (b'0' <= byte && byte <= b'9')
-        || (b'a' <= byte && byte <= b'f')
-        || (b'A' <= byte && byte <= b'F')
-}
-
-fn are_hex(bytes: &[u8]) -> bool
-    ensures { result ≡ list_all is_hex bytes.now }
-{
-    bytes.iter().all(|byte| is_hex(*byte))
-}
-
-fn hex_digit(byte: u8) -> u64
-    requires { is_hex byte ≡ true }
-    ensures value { result ≡ hex_digit byte }
-    ensures small { result < 16 }
-{
-    if b'0' <= byte && byte <= b'9' {
-        u64::from(byte - b'0')
-    } else if b'a' <= byte {
-        u64::from(byte - b'a') + 10
-    } else {
-        u64::from(byte - b'A') + 10
-    }
-}
-
-/// The value of at most sixteen hexadecimal digits.
-fn hex(bytes: &[u8]) -> u64
-    requires digits { list_all is_hex bytes.now ≡ true }
-    requires few { length bytes.now ≤ 16 }
-    ensures { result ≡ hex 0 bytes.now }
-{
-    let mut n = 0u64;
-    for byte in bytes {
-        n = 16 * n + hex_digit(*byte);
-    }
-    n
-}
-
-/// The number that hexadecimal digits spell.
-#[tactic(auto, unfolding(crate::specs::Tokens::hex_of))]
-pub fn hex_of(bytes: &[u8]) -> Option<u64>
-    ensures { result ≡ hex_of bytes.now }
-{
-    if bytes.is_empty() || bytes.len() > 16 || !are_hex(bytes) {
-        return None;
-    }
-    Some(hex(bytes))
 }
 
 /// The index of the first point.

@@ -13,8 +13,9 @@ ghost use Rattle.mt_text.specs.Cursors.{left, end_of, token_view};
 
 use crate::cursor::Cursor;
 use crate::line::{LineKind, LineRefusal};
-use crate::token::{Token, hex_of, is_word, number_of, spot_of};
+use crate::token::{Token, is_word, number_of, spot_of};
 use mt_fault::Spot;
+use mt_hex::hex_of;
 use mt_port::Shape;
 use mt_word::{Width, bits};
 

@@ -9,20 +9,20 @@ use Rattle.mt_window.specs.Kept.{slices-keeps}
 use Rattle.mt_window.proofs.Serving.{Stays, due_served-stays, left_served-stays}
 
 board-trans : {a b c : Board} → LeavesBoard a b → LeavesBoard b c → LeavesBoard a c
-board-trans p q = record { shape = q.shape ∙ p.shape; fault = q.fault ∙ p.fault; flash = q.flash ∙ p.flash; held = q.held ∙ p.held }
+board-trans p q = record { shape = q.shape ∙ p.shape; fault = q.fault ∙ p.fault; flash = q.flash ∙ p.flash; held = q.held ∙ p.held; defect = q.defect ∙ p.defect }
 
 stays-board : {C : Type 0} {a b : Scene C} → Stays a b → LeavesBoard a.board b.board
-stays-board p = record { shape = p.shape; fault = p.fault; flash = p.flash; held = p.held }
+stays-board p = record { shape = p.shape; fault = p.fault; flash = p.flash; held = p.held; defect = p.defect }
 
 pub slices-board : {C X V : Type 0} (t : Tests C X V) (L : List X) (g : Trail C) → LeavesBoard g.scene.board ((slices t L g).scene.board)
 slices-board {C} {X} {V} t L g =
-    slices-keeps t (λ (h : Trail C). LeavesBoard g.scene.board h.scene.board) step L g (record { shape = refl; fault = refl; flash = refl; held = refl })
+    slices-keeps t (λ (h : Trail C). LeavesBoard g.scene.board h.scene.board) step L g (record { shape = refl; fault = refl; flash = refl; held = refl; defect = refl })
   where
     step : (may : Bool) (x : X) (h : Trail C) → LeavesBoard g.scene.board h.scene.board → LeavesBoard g.scene.board ((after_attempt t may h x).scene.board)
     step may x h p =
         let mid = scene_behind t may h x in
         let q = due_served-stays t.table mid.board.left mid in
-        board-trans p (record { shape = q.shape; fault = q.fault; flash = q.flash; held = q.held })
+        board-trans p (record { shape = q.shape; fault = q.fault; flash = q.flash; held = q.held; defect = q.defect })
 
 pub slices_shape : {C X V : Type 0} (t : Tests C X V) (L : List X) (g : Trail C) (z : Scene C) → z ≡ (slices t L g).scene → z.board.shape ≡ g.scene.board.shape
 slices_shape t L g z e = ap (λ (y : Scene _). y.board.shape) e ∙ (slices-board t L g).shape

@@ -26,13 +26,14 @@ pub record Keeps {C : Type 0} (n : ℕ) (a b : Scene C) : Type 0 where
   pub fault : b.board.fault ≡ a.board.fault
   pub flash : b.board.flash ≡ a.board.flash
   pub held : b.board.held ≡ a.board.held
+  pub defect : b.board.defect ≡ a.board.defect
   pub count : b.board.count ≡ a.board.count
   pub left : b.board.left ≡ a.board.left
   pub taken : b.board.taken ≡ a.board.taken
   pub log : length b.log ≡ length a.log + n
 
 pub operated_all-keeps : {C : Type 0} (t : Table C) (ops : List HandlerOp) (s : Scene C) → Keeps (length ops) s (operated_all t ops s)
-operated_all-keeps t [] s = record { shape = refl; fault = refl; flash = refl; held = refl; count = refl; left = refl; taken = refl; log = omega arith }
+operated_all-keeps t [] s = record { shape = refl; fault = refl; flash = refl; held = refl; defect = refl; count = refl; left = refl; taken = refl; log = omega arith }
 operated_all-keeps t (op ∷ ops) s =
     let k = operated_all-keeps t ops (operated t s op) in
     record {
@@ -40,6 +41,7 @@ operated_all-keeps t (op ∷ ops) s =
       fault = k.fault;
       flash = k.flash;
       held = k.held;
+      defect = k.defect;
       count = k.count;
       left = k.left;
       taken = k.taken;
@@ -146,20 +148,21 @@ pub record Stays {C : Type 0} (a b : Scene C) : Type 0 where
   pub fault : b.board.fault ≡ a.board.fault
   pub flash : b.board.flash ≡ a.board.flash
   pub held : b.board.held ≡ a.board.held
+  pub defect : b.board.defect ≡ a.board.defect
   pub count : b.board.count ≡ a.board.count
 
 pub Stays-refl : {C : Type 0} (a : Scene C) → Stays a a
-Stays-refl a = record { shape = refl; fault = refl; flash = refl; held = refl; count = refl }
+Stays-refl a = record { shape = refl; fault = refl; flash = refl; held = refl; defect = refl; count = refl }
 
 pub Stays-trans : {C : Type 0} {a b c : Scene C} → Stays a b → Stays b c → Stays a c
 Stays-trans p q =
-    record { shape = q.shape ∙ p.shape; fault = q.fault ∙ p.fault; flash = q.flash ∙ p.flash; held = q.held ∙ p.held; count = q.count ∙ p.count }
+    record { shape = q.shape ∙ p.shape; fault = q.fault ∙ p.fault; flash = q.flash ∙ p.flash; held = q.held ∙ p.held; defect = q.defect ∙ p.defect; count = q.count ∙ p.count }
 
 pub served-stays : {C : Type 0} (t : Table C) (r : Request) (w : ℕ) (s : Scene C) → Stays s (served t r w s)
 served-stays t r w s =
     let k = operated_all-keeps t r.ops.items (begun (record { number = s.board.taken + 1; at = s.board.count; request = r }) w
     (record (s.board) { left = drop 1 s.board.left; taken = s.board.taken + 1 }) s.callee s.log) in
-    record { shape = k.shape; fault = k.fault; flash = k.flash; held = k.held; count = k.count }
+    record { shape = k.shape; fault = k.fault; flash = k.flash; held = k.held; defect = k.defect; count = k.count }
 
 pub due_served-stays : {C : Type 0} (t : Table C) (rs : List Request) (s : Scene C) → Stays s (due_served t rs s)
 due_served-stays t [] s = Stays-refl s

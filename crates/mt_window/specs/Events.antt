@@ -1,9 +1,10 @@
 -- One running event of a module.
-use Rattle.std.specs.Prelude.{ℕ, false, List}
+use Rattle.std.specs.Prelude.{ℕ, Bool, false, List}
 use Rattle.mt_port.specs.declared.board.Touch.{Touch}
 use Rattle.mt_window.specs.declared.reply.Reply.{Reply}
 use Rattle.mt_window.specs.Serving.{Scene, scene, serve_due, serve_left}
-use Rattle.mt_window.specs.Slices.{Tests, Attempt, Trail, slices, started}
+use Rattle.mt_port.specs.Board.{Board}
+use Rattle.mt_window.specs.Slices.{Tests, Tried, Attempt, Trail, slices, started}
 
 -- How a module answers a running call.
 pub record Running (C X V : Type 0) : Type 0 where
@@ -58,3 +59,7 @@ event_touches r s = (ran r (opened r s)).touches
 
 abbrev pub event_attempts : {C X V : Type 0} → Running C X V → Scene C → List Attempt
 event_attempts r s = (ran r (opened r s)).attempts
+
+-- the same call, where attempts at slices are others
+abbrev pub exchanged : {C X V : Type 0} → Running C X V → (Bool → C → X → Board → Tried V) → Running C X V
+exchanged r attempt = record r { tests = record (r.tests) { attempt = attempt } }

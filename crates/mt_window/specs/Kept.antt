@@ -1,14 +1,15 @@
 -- Relations between a module before and after that each of its steps keeps: the serving of requests and events keep them too.
 -- These are lemmas for the crates above; no contract cites them.
-use Rattle.std.specs.Prelude.{◌≡◌, ℕ, zero, suc, Bool, true, false, cond, is_some, List, [], ◌∷◌, ◌-◌, Option, Some, None, leb}
+use Rattle.std.specs.Prelude.{◌≡◌, ℕ, zero, suc, Bool, true, false, cond, if◌then◌else◌, is_some, List, [], ◌∷◌, ◌++◌, ◌+◌, ◌-◌, Option, Some, None, leb}
+use Rattle.mt_port.specs.Board.{Board}
 use Rattle.std.proofs.Common.{refl, sym, ap, ◌∙◌}
 use Rattle.mt_port.specs.declared.request.HandlerCall.{HandlerCall}
 use Rattle.mt_port.specs.declared.request.HandlerOp.{HandlerOp}
 use Rattle.mt_port.specs.declared.request.HandlerOp.TheVariants.{App, Call}
 use Rattle.mt_port.specs.declared.request.Request.{Request}
-use Rattle.mt_window.specs.Serving.{Table, Scene, scene, operated, operated_all, callee_by, served, due_served, left_served}
-use Rattle.mt_window.specs.Slices.{Tests, Trail, taken_by, next_attempt, scene_behind, after_attempt, tried, slices, unstopped}
-use Rattle.mt_window.specs.Events.{Running, opened, entered, ran, returned, event}
+use Rattle.mt_window.specs.Serving.{Table, Scene, scene, operated, operated_all, callee_by, served, due_served, left_served, serve_due}
+use Rattle.mt_window.specs.Slices.{Tests, Tried, Trail, attempted, taken_by, failed_by, next_attempt, scene_behind, after_attempt, tried, slices, unstopped}
+use Rattle.mt_window.specs.Events.{Running, Outcome, opened, entered, ran, returned, closed, event, exchanged}
 use Rattle.mt_window.specs.Rows.{Cell, by_row, CellKeeps}
 
 -- A relation that each row of the table keeps is kept by the serving of requests.
@@ -137,3 +138,92 @@ pub row-keeps : {C X V : Type 0} (cleared : C → C) (row : C → Cell C X) (t :
     → ((c : C) → R c (cleared c)) → ((c : C) → CellKeeps R c (row c)) → (s : Scene C) → R s.callee ((event (by_row cleared row t) s).after.callee)
 row-keeps cleared row t R kept taken clears cells s =
     event-keeps (by_row cleared row t) R (record { kept = kept; taken = taken; cleared = clears; inside = λ c. ((cells c).1 c).0; back = λ o c. ((cells o).1 c).1 }) s
+
+-- ---- attempts that come to the same
+
+operated_all-fault : {C : Type 0} (t : Table C) (ops : List HandlerOp) (s : Scene C) → (operated_all t ops s).board.fault ≡ s.board.fault
+operated_all-fault t [] s = refl
+operated_all-fault t (op ∷ ops) s = operated_all-fault t ops (operated t s op)
+
+due_served-fault : {C : Type 0} (t : Table C) (rs : List Request) (s : Scene C) → (due_served t rs s).board.fault ≡ s.board.fault
+due_served-fault t [] s = refl
+due_served-fault {C} t (r ∷ rs) s =
+    let z = served t r (s.board.count - r.offset) s in
+    cond_case (λ (x : Scene C). x.board.fault ≡ s.board.fault) (leb r.offset s.board.count) (due_served t rs z) s (due_served-fault t rs z ∙ operated_all-fault t r.ops.items _) refl
+
+-- What holds of a module, whatever its handlers call and however its slices end.
+pub record IsInvariant {C X V : Type 0} (t : Tests C X V) (I : C → Type 0) : Type 0 where
+  pub taken : (c : C) (x : X) (v : V) (failed : Bool) → I c → I (t.taken c x v failed)
+  pub row : (c : C) (call : HandlerCall) → I c → I (t.table.next c call)
+
+-- a board without a fault, under such a module
+pub record IsSoundScene {C : Type 0} (I : C → Type 0) (s : Scene C) : Type 0 where
+  pub fault : s.board.fault ≡ None
+  pub callee : I s.callee
+
+-- these attempts come to the same as those of the tests, on such scenes
+abbrev pub AreAlike : {C X V : Type 0} → Tests C X V → (Bool → C → X → Board → Tried V) → (C → Type 0) → Type 0
+AreAlike {C} {X} t f I = (may : Bool) (c : C) (x : X) (b : Board) → I c → b.fault ≡ None → t.attempt may c x b ≡ f may c x b
+
+due_served-sound : {C X V : Type 0} (t : Tests C X V) (I : C → Type 0) → IsInvariant t I → (rs : List Request) (s : Scene C) → IsSoundScene I s → IsSoundScene I (due_served t.table rs s)
+due_served-sound t I k rs s h = record {
+  fault = due_served-fault t.table rs s ∙ h.fault;
+  callee = due_served-moves t.table (λ a b. I a → I b) (record { none = λ c p. p; both = λ a b c p q i. q (p i); row = k.row }) rs s h.callee;
+}
+
+taken_by-sound : {C X V : Type 0} (t : Tests C X V) (I : C → Type 0) → IsInvariant t I → (c : C) (x : X) (failed : Bool) (v : Option V) → I c → I (taken_by t c x failed v)
+taken_by-sound t I k c x failed None h = h
+taken_by-sound t I k c x failed (Some v) h = k.taken c x v failed h
+
+after_attempt-sound : {C X V : Type 0} (t : Tests C X V) (I : C → Type 0) → IsInvariant t I → (may : Bool) (x : X) (g : Trail C) → IsSoundScene I g.scene → IsSoundScene I (after_attempt t may g x).scene
+after_attempt-sound t I k may x g h =
+    let mid = scene_behind t may g x in
+    due_served-sound t I k mid.board.left mid (record { fault = h.fault; callee = taken_by-sound t I k g.scene.callee x g.failed (next_attempt t may g x).verdict h.callee })
+
+-- what an attempt leaves, by what it came to
+abbrev left_of : {C X V : Type 0} → Tests C X V → Bool → Trail C → X → Tried V → Trail C
+left_of t may g x a = record {
+  scene = serve_due t.table (scene (attempted a g.scene.board) (taken_by t g.scene.callee x g.failed a.verdict) g.scene.log);
+  failed = failed_by t x g.failed a.verdict;
+  touches = g.touches ++ a.touches;
+  attempts = g.attempts ++ (record { finish = g.scene.board.count + a.count; hold = a.count; restores = if may then t.restores g.scene.callee x else None }) ∷ [];
+}
+
+tried-alike : {C X V : Type 0} (t : Tests C X V) (f : Bool → C → X → Board → Tried V) (I : C → Type 0) → IsInvariant t I → AreAlike t f I → (n : ℕ) (x : X) (g : Trail C) → IsSoundScene I g.scene
+    → tried t n x g ≡ tried (record t { attempt = f }) n x g
+tried-alike {C} {X} {V} t f I k alike zero x g h =
+    ap (λ (a : Tried V). cond (t.stops g.scene.callee) g (left_of t false g x a)) (alike false g.scene.callee x g.scene.board h.callee h.fault)
+tried-alike {C} {X} {V} t f I k alike (suc n) x g h =
+    let e = alike true g.scene.callee x g.scene.board h.callee h.fault in
+    let z = after_attempt t true g x in
+    ap (λ (y : Trail C). cond (t.stops g.scene.callee) g (cond (is_some (next_attempt t true g x).verdict) z y)) (tried-alike t f I k alike n x z (after_attempt-sound t I k true x g h))
+    ∙ ap (λ (a : Tried V). cond (t.stops g.scene.callee) g (cond (is_some a.verdict) (left_of t true g x a) (tried (record t { attempt = f }) n x (left_of t true g x a)))) e
+
+pub slices-alike : {C X V : Type 0} (t : Tests C X V) (f : Bool → C → X → Board → Tried V) (I : C → Type 0) → IsInvariant t I → AreAlike t f I → (L : List X) (g : Trail C) → IsSoundScene I g.scene
+    → slices t L g ≡ slices (record t { attempt = f }) L g
+slices-alike t f I k alike [] g h = refl
+slices-alike {C} t f I k alike (x ∷ more) g h =
+    let n = t.retries g.scene.callee in
+    slices-alike t f I k alike more (tried t n x g) (tried-keeps t (λ (y : Trail C). IsSoundScene I y.scene) (λ may x y p. after_attempt-sound t I k may x y p) n x g h)
+    ∙ ap (slices (record t { attempt = f }) more) (tried-alike t f I k alike n x g h)
+
+-- A call keeps what holds of its module, up to its slices.
+pub record EntersSound {C X V : Type 0} (r : Running C X V) (I : C → Type 0) : Type 0 where
+  pub tests : IsInvariant r.tests I
+  pub cleared : (c : C) → I c → I (r.cleared c)
+  pub inside : (c : C) → I c → I (r.inside c)
+
+-- from just after boundary 0 the slices come to the same
+pub ran-alike : {C X V : Type 0} (r : Running C X V) (f : Bool → C → X → Board → Tried V) (I : C → Type 0) → EntersSound r I → AreAlike r.tests f I → (s : Scene C) → IsSoundScene I s
+    → ran r (opened r s) ≡ ran (exchanged r f) (opened (exchanged r f) s)
+ran-alike {C} r f I k alike s h =
+    let first : Scene C = scene s.board (r.cleared s.callee) s.log in
+    let o = opened r s in
+    let sound = due_served-sound r.tests I k.tests s.board.left first (record { fault = h.fault; callee = k.cleared s.callee h.callee }) in
+    slices-alike r.tests f I k.tests alike (r.work o.callee) (entered r o) (record { fault = sound.fault; callee = k.inside o.callee sound.callee })
+
+pub event-alike : {C X V : Type 0} (r : Running C X V) (f : Bool → C → X → Board → Tried V) (I : C → Type 0) → EntersSound r I → AreAlike r.tests f I → (s : Scene C) → IsSoundScene I s
+    → event r s ≡ event (exchanged r f) s
+event-alike {C} r f I k alike s h =
+    let o = opened r s in
+    ap (λ (g : Trail C). let e : Outcome C = record { after = closed r o g.scene; reply = r.reply o.callee g.scene.board.count } in e) (ran-alike r f I k alike s h)

@@ -117,6 +117,7 @@ pub record LeavesBoard (a b : Board) : Type 0 where
   pub fault : b.fault ≡ a.fault
   pub flash : b.flash ≡ a.flash
   pub held : b.held ≡ a.held
+  pub defect : b.defect ≡ a.defect
 
 abbrev pub KeepsBoard : {C X V : Type 0} → Running C X V → Type 0
 KeepsBoard {C} r = (s : Scene C) → LeavesBoard s.board ((event r s).after.board)

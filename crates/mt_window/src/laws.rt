@@ -11,7 +11,7 @@ pub fn requests_are_served<C: Callee, W: Walk<C>>()
     ensures places { (name : _) → ServesByOffset (W.running name) }
     ensures order { (name : _) → ServesInOrder (W.running name) }
     ensures taken { (name : _) → TakesAll (W.running name) }
-    // Shape, fault, flash words, and whether interrupts are held.
+    // Shape, fault, flash words, defect, and whether interrupts are held.
     ensures board { (name : _) → KeepsBoard (W.running name) }
 {}
 

@@ -58,6 +58,13 @@ impl EventLog {
         self.kept.push(entry);
     }
 
+    /// Drops all entries, so that the log serves the next event.
+    pub fn clear(&mut self)
+        ensures { self.new ≡ [] }
+    {
+        self.kept.clear();
+    }
+
     pub fn entries(&self) -> &[Entry]
         ensures { result.now ≡ self.now }
     {

@@ -1,5 +1,5 @@
 use Rattle.mt_conf.specs.Lookup.{fields}
-use Rattle.mt_conf.specs.Rules.{flash_block_of}
+use Rattle.mt_conf.specs.Outcome.{flash_block_of}
 use Rattle.mt_conf.proofs.Lists.{map_view}
 use Rattle.mt_conf.proofs.value.flash_blocks_in.Goals as goal
 

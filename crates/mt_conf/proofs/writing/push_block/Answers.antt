@@ -1,5 +1,5 @@
 use Rattle.std.specs.Prelude.{codes}
-use Rattle.mt_text.specs.Digits.{word_text}
+use Rattle.mt_hex.specs.Digits.{word_text}
 use Rattle.mt_conf.specs.Canonical.{number_entry, text_entry, header, policy_name, block_text}
 use Rattle.mt_conf.proofs.Parts.{five_parts}
 use Rattle.mt_conf.proofs.writing.push_block.Goals as goal

@@ -10,7 +10,7 @@ pub returns-in-None-clause-does : goal.returns-in-None-clause-does
 returns-in-None-clause-does g c =
     let m : Machine = record { board = g.B.Port.state c.args.board.now; modules = c.args.modules.now } in
     let none = sym c.running_of.ensures ∙ c.in-None.is in
-    let e = ap (λ (r : Option Running). by_service m (service_of c.args.call) r c.args.requests.items) none
+    let e = ap (λ (r : Option Running). by_service m (service_of c.args.call) r c.args.line.now.requests.items) none
     ∙ does_call m c.serve.new.ram (service_of c.args.call) c.serve.result c.args.log.now c.serve.ensures.reply c.serve.ensures.next c.requires.empty in
     record {
       after = ap (λ (s : Step). s.after) e;

@@ -1,7 +1,7 @@
 use Rattle.std.proofs.Common.{◌∙◌, ap, sym, subst, List, ℕ}
 use Rattle.mt_replay.specs.Input.{Finished, Whole}
 use Rattle.mt_replay.specs.Outcome.{by_job}
-use Rattle.mt_replay.specs.Replay.{IsFound}
+use Rattle.mt_replay.specs.Inner.Jobs.{IsFound}
 use Rattle.mt_port.proofs.StreamLemmas.{WhereTold-map}
 use Rattle.mt_replay.proofs.Jobs.{found_follows, found_empty, found_whole, found_long, head_fails}
 use Rattle.mt_replay.proofs.job.find.Goals as goal
@@ -10,14 +10,14 @@ pub returns-in-Ok-Parted-clause-ok : goal.returns-in-Ok-Parted-clause-ok
 returns-in-Ok-Parted-clause-ok g c =
     let head = rw c.in-Ok-Parted.field-0-is at c.in-Ok-Parted.ensures.ok in
     let kept = c.deref.ensures.value in
-    WhereTold-map _ _ head (λ x y h. found_follows c.found_in.result _ x y (subst (IsFound c.found_in.result) kept c.found_in.ensures.value) c.found_in.ensures.script h)
+    WhereTold-map _ _ head (λ x y h. found_follows c.found_in.result _ x y (subst (IsFound c.found_in.result) kept c.found_in.ensures.value) c.found_in.ensures.follows h)
 
 pub returns-in-Ok-PartedAtEnd-clause-ok : goal.returns-in-Ok-PartedAtEnd-clause-ok
 returns-in-Ok-PartedAtEnd-clause-ok g c =
     let head = rw c.in-Ok-PartedAtEnd.field-0-is at c.in-Ok-PartedAtEnd.ensures.ok in
     let kept = c.deref-in-Ok-PartedAtEnd.ensures.value in
     let found = c.found_in-in-Ok-PartedAtEnd in
-    WhereTold-map _ _ head (λ x y h. found_empty found.result _ x y (subst (IsFound found.result) kept found.ensures.value) found.ensures.script h)
+    WhereTold-map _ _ head (λ x y h. found_empty found.result _ x y (subst (IsFound found.result) kept found.ensures.value) found.ensures.follows h)
 
 pub returns-in-Ok-Whole-clause-ok : goal.returns-in-Ok-Whole-clause-ok
 returns-in-Ok-Whole-clause-ok g c =

@@ -1,19 +1,41 @@
-use Rattle.std.proofs.Common.{◌∷◌, ◌++◌, [], sym, subst, List}
+use Rattle.std.proofs.Common.{◌∷◌, ◌++◌, [], ◌∙◌, ap, sym, subst, List}
+use Rattle.std.proofs.lemmas.Result.{on_ok_weaker, on_err_weaker}
 use Rattle.mt_port.proofs.StreamLemmas.{Appends-nil}
 use Rattle.mt_window.specs.declared.log.Entry.{Entry}
 use Rattle.mt_window.specs.declared.log.Entry.TheVariants.{Own}
-use Rattle.mt_replay.specs.Events.{Steps}
-use Rattle.mt_replay.specs.Machine.{Machine}
-use Rattle.mt_replay.proofs.Turns.{played_line, silent_line}
+use Rattle.mt_replay.specs.Inner.Events.{Steps}
+use Rattle.mt_replay.specs.Machine.{Machine, machine}
+use Rattle.mt_replay.proofs.Defects.{boards_stay, step-defect}
+use Rattle.mt_replay.proofs.Turns.{played_line, played_front, silent_line}
 use Rattle.mt_replay.proofs.run.play_line.Goals as goal
 
-pub returns-in-None-clause-gives : goal.returns-in-None-clause-gives
-returns-in-None-clause-gives g c = silent_line c.args.shape _ _ c.args.number c.args.line _ c.in-None.ensures.gives (Appends-nil _)
+pub returns-in-None-clause-ok : goal.returns-in-None-clause-ok
+returns-in-None-clause-ok g c = silent_line c.args.shape _ _ c.args.number c.args.desk.now.line _ c.in-None.ensures.gives (Appends-nil _)
 
-pub returns-in-Some-clause-gives : goal.returns-in-Some-clause-gives
-returns-in-Some-clause-gives g c =
-    let m : Machine = record { board = g.B.Port.state c.args.board.now; modules = c.args.modules.now } in
-    let m' : Machine = record { board = g.B.Port.state c.perform.new.board; modules = c.perform.new.modules } in
-    let steps = subst (λ (l : List Entry). Steps m m' c.args.line (l ++ Own c.in-Some.reply ∷ []) (g.B.Port.tape c.args.board.now) (g.B.Port.tape c.perform.new.board)) (sym c.entries.ensures) c.in-Some.ensures.gives in
-    let wrote = c.write_answer.ensures in
-    played_line c.write_answer.result c.args.shape m m' c.args.number c.args.line _ _ steps wrote.ok wrote.err wrote.same _ _ wrote.cause
+pub returns-in-Some-clause-ok : goal.returns-in-Some-clause-ok
+returns-in-Some-clause-ok g c =
+    let m : Machine = machine (g.B.Port.state c.args.board.now) c.args.modules.now in
+    let m' : Machine = machine (g.B.Port.state c.perform.new.board) c.perform.new.modules in
+    let steps = subst (λ (l : List Entry). Steps m m' c.args.desk.now.line (l ++ Own c.in-Some.reply ∷ []) (g.B.Port.tape c.args.board.now) (g.B.Port.tape c.perform.new.board)) (sym c.entries.ensures) c.in-Some.ensures.gives in
+    on_ok_weaker c.write_answer.result (λ ok. played_line c.args.shape m m' c.args.number c.args.desk.now.line _ _ steps ok) c.write_answer.ensures.ok
+
+pub returns-in-Some-clause-err : goal.returns-in-Some-clause-err
+returns-in-Some-clause-err g c =
+    let m : Machine = machine (g.B.Port.state c.args.board.now) c.args.modules.now in
+    let m' : Machine = machine (g.B.Port.state c.perform.new.board) c.perform.new.modules in
+    let steps = subst (λ (l : List Entry). Steps m m' c.args.desk.now.line (l ++ Own c.in-Some.reply ∷ []) (g.B.Port.tape c.args.board.now) (g.B.Port.tape c.perform.new.board)) (sym c.entries.ensures) c.in-Some.ensures.gives in
+    on_err_weaker c.write_answer.result (λ front. played_front c.args.shape m m' c.args.number c.args.desk.now.line _ _ _ _ _ steps front) c.write_answer.ensures.err
+
+pub returns-in-None-clause-board : goal.returns-in-None-clause-board
+returns-in-None-clause-board g c =
+    let ram = c.running_calls_keep_the_board.ensures in
+    let fls = c.running_calls_keep_the_board-2.ensures in
+    let m : Machine = machine (g.B.Port.state c.args.board.now) c.args.modules.now in
+    ap (λ (n : Machine). n.board.defect) (sym c.in-None.ensures.gives.after) ∙ step-defect (boards_stay ram.tick ram.full ram.partial fls.tick fls.foreground) m c.args.desk.now.line
+
+pub returns-in-Some-clause-board : goal.returns-in-Some-clause-board
+returns-in-Some-clause-board g c =
+    let ram = c.running_calls_keep_the_board.ensures in
+    let fls = c.running_calls_keep_the_board-2.ensures in
+    let m : Machine = machine (g.B.Port.state c.args.board.now) c.args.modules.now in
+    ap (λ (n : Machine). n.board.defect) (sym c.in-Some.ensures.gives.after) ∙ step-defect (boards_stay ram.tick ram.full ram.partial fls.tick fls.foreground) m c.args.desk.now.line

@@ -1,33 +1,31 @@
-use Rattle.std.proofs.Common.{◌-◌}
-use Rattle.mt_replay.specs.Machine.{Machine}
-use Rattle.mt_replay.specs.Outcome.{done, refused, judged}
-use Rattle.mt_replay.proofs.Runs.{whole_turn, end_turn, last_leaves, end_leaves, long_leaves, broken_turn}
+use Rattle.std.proofs.Common.{◌-◌, Ok, Err}
+use Rattle.mt_replay.specs.declared.run.End.TheVariants as end
+use Rattle.mt_replay.specs.Machine.{machine}
+use Rattle.mt_replay.proofs.Runs.{whole_turn, last_turn, bare_end, end_is, long_is, broken_is}
 use Rattle.mt_replay.proofs.run.run_line.Goals as goal
 
-pub returns-in_default-clause-gives : goal.returns-in_default-clause-gives
-returns-in_default-clause-gives g c =
-    let m : Machine = record { board = g.B.Port.state c.args.board.now; modules = c.args.modules.now } in
-    broken_turn c.args.task m c.args.number c.read_line.new.text.items _ _ _ _ c.requires.few c.in_default.ensures.err
+pub returns-in-Ok-Whole-clause-gives : goal.returns-in-Ok-Whole-clause-gives
+returns-in-Ok-Whole-clause-gives g c =
+    whole_turn c.judge_line.result c.args.task.now.form c.args.task.now.shape c.args.number _ _ c.read_line.new.text.items _ _ _ _ _ _ (rw c.in-Ok-Whole.field-0-is at c.in-Ok-Whole.ensures.ok) c.judge_line.ensures.gives
 
-pub returns-in-Whole-clause-gives : goal.returns-in-Whole-clause-gives
-returns-in-Whole-clause-gives g c =
-    whole_turn c.judge_line.result _ _ _ _ _ _ _ _ _ _ _ (rw c.in-Whole.is at c.in-Ok.ensures.ok) (rw c.deref.ensures.0 at c.judge_line.ensures.gives)
+pub returns-in-Ok-clause-gives : goal.returns-in-Ok-clause-gives
+returns-in-Ok-clause-gives g c =
+    last_turn (Ok c.in-Ok.end) c.args.task.now.form c.args.task.now.shape c.args.number _ _ c.read_line.new.text.items _ _ _ _ _ _ (rw c.in-Ok-Last.field-0-is at c.in-Ok-Last.ensures.ok) c.in-Ok.ensures.gives
 
-pub returns-in-Last-clause-gives : goal.returns-in-Last-clause-gives
-returns-in-Last-clause-gives g c =
-    let m : Machine = record { board = g.B.Port.state c.args.board.now; modules = c.args.modules.now } in
-    let text = c.read_line.new.text.items in
-    end_turn c.last_line.result c.args.task m _ c.args.number (judged c.args.task m c.args.number text (λ after. done c.args.task after c.args.number)) _ _ _ _ _ _
-    (last_leaves _ m _ text _ _ (rw c.in-Last.is at c.in-Ok.ensures.ok)) (rw c.deref-in-Last.ensures.0 at c.last_line.ensures.gives)
+pub returns-in-Err-last_line-clause-gives : goal.returns-in-Err-last_line-clause-gives
+returns-in-Err-last_line-clause-gives g c =
+    last_turn (Err c.in-Err-last_line.failed) c.args.task.now.form c.args.task.now.shape c.args.number _ (machine (g.B.Port.state c.last_line.new.board) c.last_line.new.modules) c.read_line.new.text.items _ _ _ _ _ _ (rw c.in-Ok-Last.field-0-is at c.in-Ok-Last.ensures.ok) c.in-Err-last_line.ensures.gives
 
-pub returns-in-End-clause-gives : goal.returns-in-End-clause-gives
-returns-in-End-clause-gives g c =
-    let m : Machine = record { board = g.B.Port.state c.args.board.now; modules = c.args.modules.now } in
-    end_turn c.finish_turn.result c.args.task m m c.args.number (done c.args.task m (c.args.number - 1)) _ _ _ _ _ _
-    (end_leaves _ m _ c.read_line.new.text.items _ _ (rw c.in-End.is at c.in-Ok.ensures.ok)) (c.finish_turn.ensures.gives m (g.B.Port.tape c.args.board.now))
+pub returns-in-Ok-End-clause-gives : goal.returns-in-Ok-End-clause-gives
+returns-in-Ok-End-clause-gives g c =
+    bare_end (end.Whole (c.args.number - 1)) c.args.task.now.form c.args.task.now.shape c.args.number _ _ _ _ _
+    (end_is c.args.task.now.shape c.args.number c.read_line.new.text.items _ _ (rw c.in-Ok-End.field-0-is at c.in-Ok-End.ensures.ok))
 
-pub returns-in-TooLong-clause-gives : goal.returns-in-TooLong-clause-gives
-returns-in-TooLong-clause-gives g c =
-    let m : Machine = record { board = g.B.Port.state c.args.board.now; modules = c.args.modules.now } in
-    end_turn c.refuse_turn.result c.args.task m m c.args.number (refused m c.args.number 10 1025) _ _ _ _ _ _
-    (long_leaves _ m _ c.read_line.new.text.items _ _ c.requires.few (rw c.in-TooLong.is at c.in-Ok.ensures.ok)) (c.refuse_turn.ensures.gives m (g.B.Port.tape c.args.board.now))
+pub returns-in-Ok-TooLong-clause-gives : goal.returns-in-Ok-TooLong-clause-gives
+returns-in-Ok-TooLong-clause-gives g c =
+    bare_end (end.Refused c.args.number 10 1025) c.args.task.now.form c.args.task.now.shape c.args.number _ _ _ _ _
+    (long_is c.args.task.now.shape c.args.number c.read_line.new.text.items _ _ c.requires.few (rw c.in-Ok-TooLong.field-0-is at c.in-Ok-TooLong.ensures.ok))
+
+pub returns-in-Err-clause-gives : goal.returns-in-Err-clause-gives
+returns-in-Err-clause-gives g c =
+    bare_end end.Broken c.args.task.now.form c.args.task.now.shape c.args.number _ _ _ _ _ (broken_is c.args.task.now.shape c.args.number c.read_line.new.text.items _ _ c.requires.few c.in-Err.ensures.err)

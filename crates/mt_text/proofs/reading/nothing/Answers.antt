@@ -1,10 +1,7 @@
-use Rattle.std.proofs.Common.{◌∙◌, sym, ap, List, Result, Ok}
-use Rattle.mt_text.specs.declared.line.Line.{Line}
-use Rattle.mt_port.specs.declared.request.Request.{Request}
-use Rattle.mt_text.specs.declared.line.LineRefusal.{LineRefusal}
+use Rattle.std.proofs.Common.{◌∙◌, ap}
 use Rattle.mt_text.specs.Cursors.{end_of}
 use Rattle.mt_text.specs.Forms.{done}
-use Rattle.mt_text.specs.Lines.{run, Ended, line}
+use Rattle.mt_text.specs.Lines.{run, Ended}
 use Rattle.mt_text.proofs.RunLemmas.{ended_token, ended_end, continues_err}
 use Rattle.mt_text.proofs.reading.nothing.Goals as goal
 
@@ -12,4 +9,4 @@ pub returns-in-Ok : goal.returns-in-Ok
 returns-in-Ok c = λ ev. continues_err _ _ _ _ c.refused.ensures (ap (λ ts. run c.args.shape (end_of c.args.cursor.now) (done (Ended ev)) ts) c.in-Ok.ensures.took ∙ ended_token c.args.shape (end_of c.args.cursor.now) ev _ _)
 
 pub returns-in-Err : goal.returns-in-Err
-returns-in-Err c = λ ev. ap (λ ts. run c.args.shape (end_of c.args.cursor.now) (done (Ended ev)) ts) c.in-Err.ensures.took.0 ∙ ended_end c.args.shape (end_of c.args.cursor.now) ev ∙ (let E : List Request → Result Line LineRefusal = λ rs. Ok (line ev rs) in ap E (sym c.new.ensures))
+returns-in-Err c = λ ev. ap (λ ts. run c.args.shape (end_of c.args.cursor.now) (done (Ended ev)) ts) c.in-Err.ensures.took.0 ∙ ended_end c.args.shape (end_of c.args.cursor.now) ev

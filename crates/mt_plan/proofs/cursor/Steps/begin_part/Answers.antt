@@ -9,9 +9,9 @@ pub returns-then-part-part_count-clause-cursor : goal.returns-then-part-part_cou
 returns-then-part-part_count-clause-cursor c =
     let s = c.args.self.now in
     let is = c.requires.cursor in
-    begins_part c.args.algorithm.now s.n (s.made + 1) s.rows (s.place.part + 1) c.len-self.result c.line_at-self.result c.element_at-self.result
+    begins_part c.args.algorithm.now s.n (s.made + 1) s.rows (s.place.part + 1) c.len-self.result c.line_at-self.result c.load_element.new.element
     is.accepted is.some is.small is.rows (before_part c.args.algorithm.now s is c.requires.part c.requires.done c.requires.last)
-    (omega (arith, c.if-part-part_count.true, c.part_count.ensures.count)) c.element_at-self.ensures c.line_at-self.ensures.line c.len-self.ensures.len
+    (omega (arith, c.if-part-part_count.true, c.part_count.ensures.count)) c.load_element.ensures c.line_at-self.ensures.line c.len-self.ensures.len
 
 pub returns-else-part-part_count-clause-cursor : goal.returns-else-part-part_count-clause-cursor
 returns-else-part-part_count-clause-cursor c =

@@ -1,7 +1,7 @@
 use Rattle.std.proofs.Common.{◌∙◌, Bool, subst, sym}
 use Rattle.std.specs.Io.KnownBytes.{prepend_known}
 use Rattle.mt_replay.proofs.Feeds.{HasNoFeed-append}
-use Rattle.mt_replay.specs.Input.{HasNoFeed}
+use Rattle.mt_replay.specs.Inner.Reading.{HasNoFeed}
 use Rattle.mt_replay.proofs.Lines.{Filled, ends_whole, goes_on, exceeds}
 use Rattle.mt_replay.proofs.input.Input.read_line.Goals as goal
 

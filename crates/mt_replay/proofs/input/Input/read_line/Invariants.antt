@@ -1,6 +1,6 @@
 use Rattle.std.proofs.Common.{◌≡◌, ◌≤◌, ◌-◌, length}
 use Rattle.std.specs.Io.KnownBytes.{prepend_known}
-use Rattle.mt_replay.specs.Input.{HasNoFeed}
+use Rattle.mt_replay.specs.Inner.Reading.{HasNoFeed}
 use Rattle.mt_replay.proofs.Lines.{Begun}
 use Rattle.mt_replay.proofs.input.Input.read_line.Given as goal
 

@@ -1,7 +1,7 @@
 use Rattle.std.proofs.Common.{◌≡◌, ◌<◌, ◌∙◌, ap, sym, subst, arith, take, drop, length}
 use Rattle.std.proofs.lemmas.List.{take-append-drop, drop_all, take_all}
 use Rattle.std.proofs.lemmas.Grind.{common_steps}
-use Rattle.mt_replay.specs.Input.{HasNoFeed}
+use Rattle.mt_replay.specs.Inner.Reading.{HasNoFeed}
 use Rattle.mt_replay.proofs.Feeds.{splits, feed_len, Splits}
 use Rattle.mt_replay.proofs.input.Input.take_piece.Goals as goal
 

@@ -1,0 +1,9 @@
+use Rattle.std.proofs.Common.{rules}
+use Rattle.mt_conf.specs.declared.schema.Part.TheVariants.{FlashBlock}
+use Rattle.mt_conf.specs.Rules.{breaks, any_in_fls}
+use Rattle.mt_conf.proofs.shape.breaks_in_fls.Goals as goal
+
+pub returns-else-breaks : goal.returns-else-breaks
+returns-else-breaks c =
+    let found = c.any_flash_block.ensures (breaks c.args.rule FlashBlock) (λ x answer call. search rules) in
+    search rules

@@ -1,0 +1,52 @@
+use Rattle.std.proofs.Common.{sym, ◌∙◌, subst, Option}
+use Rattle.mt_window.specs.Waits.{ServesInTime}
+use Rattle.mt_ram.specs.Event.{ticking, full_test}
+use Rattle.mt_ram.specs.Laws.{PartialTestsServeInTime}
+use Rattle.mt_fls.specs.Event as fls_event
+use Rattle.mt_fls.specs.Laws.{ForegroundTestsServeInTime}
+use Rattle.mt_replay.specs.declared.event.Running.{Running}
+use Rattle.mt_replay.specs.declared.event.Running.TheVariants as rams
+use Rattle.mt_replay.specs.declared.event.FlsRunning.{FlsRunning}
+use Rattle.mt_replay.specs.declared.event.FlsRunning.TheVariants as flss
+use Rattle.mt_replay.specs.Machine.{events_of, fls_events_of}
+use Rattle.mt_replay.specs.declared.form.Form.{Form}
+use Rattle.mt_replay.specs.Replay.{Completes}
+use Rattle.mt_replay.proofs.Jobs.{completes}
+use Rattle.mt_replay.proofs.Latencies.{are_served_in_time}
+use Rattle.mt_replay.proofs.Cuts.{tells_least_ticks}
+use Rattle.mt_replay.proofs.top.replay.Goals as goal
+
+pub returns-in-Some-clause-complete : goal.returns-in-Some-clause-complete
+returns-in-Some-clause-complete g c =
+    let job = c.replay_job.ensures in
+    subst (λ (form : Option Form). Completes form c.replay_job.result (g.B.Port.state c.args.board.now).defect (g.S.Source.left c.args.source.now) (g.S.Source.faults c.args.source.now) (g.S.Source.faults c.replay_job.new.source) (g.K.Sink.faults c.args.sink.now) (g.K.Sink.faults c.replay_job.new.sink))
+    (sym (sym c.form_of.ensures ∙ c.in-Some.is))
+    (completes c.replay_job.result c.in-Some.form (g.B.Port.state c.args.board.now).defect _ _ _ _ _ _ _ job.gives job.cause)
+
+-- the laws of each running call
+ram_calls : ServesInTime ticking → ServesInTime full_test → PartialTestsServeInTime → (call : Running) → ServesInTime (events_of call)
+ram_calls tick full partial rams.Tick = tick
+ram_calls tick full partial rams.Full = full
+ram_calls tick full partial (rams.Partial block) = partial block
+
+fls_calls : ServesInTime fls_event.ticking → ForegroundTestsServeInTime → (call : FlsRunning) → ServesInTime (fls_events_of call)
+fls_calls tick foreground flss.Tick = tick
+fls_calls tick foreground (flss.Foreground block) = foreground block
+
+pub returns-in-Some-clause-latency : goal.returns-in-Some-clause-latency
+returns-in-Some-clause-latency g c =
+    let ram = c.waits_of_running_calls.ensures in
+    let fls = c.waits_of_running_calls-2.ensures in
+    are_served_in_time (record { ram = ram_calls ram.tick ram.full ram.partial; fls = fls_calls fls.tick fls.foreground }) _ (g.B.Port.state c.args.board.now).defect
+
+pub returns-in-None-clause-latency : goal.returns-in-None-clause-latency
+returns-in-None-clause-latency g c =
+    let ram = c.waits_of_running_calls.ensures in
+    let fls = c.waits_of_running_calls-2.ensures in
+    are_served_in_time (record { ram = ram_calls ram.tick ram.full ram.partial; fls = fls_calls fls.tick fls.foreground }) _ (g.B.Port.state c.args.board.now).defect
+
+pub returns-in-Some-clause-least : goal.returns-in-Some-clause-least
+returns-in-Some-clause-least g c = tells_least_ticks c.longest_runs_are_least.ensures.under c.longest_runs_are_least.ensures.least _ (g.B.Port.state c.args.board.now).defect
+
+pub returns-in-None-clause-least : goal.returns-in-None-clause-least
+returns-in-None-clause-least g c = tells_least_ticks c.longest_runs_are_least.ensures.under c.longest_runs_are_least.ensures.least _ (g.B.Port.state c.args.board.now).defect

@@ -1,0 +1,106 @@
+//! The top call.
+
+ghost use Rattle.std.specs.Prelude.{◌≡◌};
+ghost use Rattle.mt_replay.specs.Changes.{change};
+ghost use Rattle.mt_replay.specs.Replay.{form_named, ask_of, ask_named, form_of, Replays, StatusCaused, LeavesBoard, IsLeftFree, Completes, AreServedInTime, TellsLeastTicks};
+
+use crate::form::{Ask, Form};
+use crate::job::{replay_job, tell};
+use crate::status::Status;
+use mt_cut::longest_runs_are_least;
+use mt_fls::waits_of_running_calls as fls_waits;
+use mt_port::{Bench, Sink, Source};
+use mt_ram::waits_of_running_calls as ram_waits;
+use mt_text::number_of;
+use std::alloc::Global;
+
+// The form of a job that a word asks for.
+fn form_named(word: &[u8]) -> Option<Form>
+    ensures { result ≡ form_named word.now }
+{
+    if word == b"run".as_slice() {
+        return Some(Form::Run);
+    }
+    if word == b"check".as_slice() {
+        return Some(Form::Check);
+    }
+    if word == b"fmt".as_slice() {
+        return Some(Form::Format);
+    }
+    if word == b"migrate".as_slice() {
+        return Some(Form::Migrate);
+    }
+    None
+}
+
+// A set, a budget and a wait, where all three are numbers.
+fn ask_of(set: Option<u32>, budget: Option<u32>, wait: Option<u32>) -> Option<Form>
+    ensures { result ≡ ask_of set budget wait }
+{
+    Some(Form::Cut(Ask {
+        set: set?,
+        budget: budget?,
+        wait: wait?,
+    }))
+}
+
+// What a word and three numbers ask for.
+fn ask_named(word: &[u8], set: &[u8], budget: &[u8], wait: &[u8]) -> Option<Form>
+    ensures { result ≡ ask_named word.now set.now budget.now wait.now }
+{
+    if word == b"cut".as_slice() {
+        return ask_of(number_of(set), number_of(budget), number_of(wait));
+    }
+    None
+}
+
+fn form_of(words: &[String]) -> Option<Form>
+    ensures { result ≡ form_of words.now }
+{
+    match words {
+        [word] => form_named(word.as_bytes()),
+        [word, set, budget, wait] => ask_named(
+            word.as_bytes(),
+            set.as_bytes(),
+            budget.as_bytes(),
+            wait.as_bytes(),
+        ),
+        _ => None,
+    }
+}
+
+/// Does what the words after the program's name ask for: `run` reads a job from the source, replays it on the board and
+/// writes its trace to the sink; `check` reads a job and writes the closing line alone; `fmt` reads a job and writes it
+/// in canonical form, without a closing line; `migrate` does so with a configuration of version 2; `cut S T L` reads a job and writes the fewest ticks in which a pass over
+/// its set S may be cut with at most T accesses per tick, and the greatest slice for which no request waits longer than
+/// L accesses. All other words answer `Usage`. Memory is taken before the first byte is written.
+pub fn replay<S: Source, K: Sink, B: Bench>(
+    alloc: Global,
+    words: &[String],
+    source: &mut S,
+    sink: &mut K,
+    board: &mut B,
+) -> Status
+    ensures gives { Replays (form_of words.now) result (B.state board.old).defect (B.state board.old) (B.state board.new) (S.faults source.old) (S.faults source.new) (K.faults sink.old) (K.faults sink.new)
+        (change (S.left source.old) (S.left source.new) (K.held sink.old) (K.held sink.new) (B.tape board.old) (B.tape board.new)) }
+    ensures cause { StatusCaused result (S.faults source.old) (S.faults source.new) (K.faults sink.old) (K.faults sink.new) }
+    // Only a replay uses the board, whatever becomes of the streams; behind a power-up it is left free.
+    ensures board { LeavesBoard (form_of words.now) (B.state board.old) (B.state board.new) (B.tape board.old) (B.tape board.new) }
+    ensures free { IsLeftFree (B.state board.old) (B.state board.new) }
+    // Where neither stream failed, an accepted job ends in `Done`, or no memory was found.
+    ensures complete { Completes (form_of words.now) result (B.state board.old).defect (S.left source.old) (S.faults source.old) (S.faults source.new) (K.faults sink.old) (K.faults sink.new) }
+    // Whatever bytes the job has, each request of its replay is served where its offset says; it waits 0, or less than the
+    // length of the attempt that it meets; and an urgent one at most the words of the slice, where the attempt may be dropped.
+    ensures latency { AreServedInTime (form_of words.now) (B.state board.old).defect }
+    // Whatever bytes the job has, no cut under the budget has fewer ticks than `cut` tells.
+    ensures least { TellsLeastTicks (form_of words.now) (B.state board.old).defect }
+{
+    // No cut under a budget has fewer ticks than the longest runs.
+    longest_runs_are_least();
+    ram_waits();
+    fls_waits();
+    match form_of(words) {
+        Some(form) => replay_job(alloc, form, source, sink, board),
+        None => tell(sink, b"usage\n", Status::Usage),
+    }
+}

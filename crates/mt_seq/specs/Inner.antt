@@ -1,0 +1,2 @@
+-- What only contracts between the functions of this crate cite.
+pub mod Ground
