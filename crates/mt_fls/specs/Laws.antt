@@ -1,5 +1,5 @@
 -- What running events and boundaries are known by.
-use Rattle.std.specs.Prelude.{ℕ, ◌≡◌, true, false, Option}
+use Rattle.std.specs.Prelude.{ℕ, ◌≡◌, ◌<◌, length, true, false, Option}
 use Rattle.mt_window.specs.Serving.{Scene, serve_due, serve_left}
 use Rattle.mt_window.specs.Slices.{slices, unstopped}
 use Rattle.mt_window.specs.Rows.{work_in}
@@ -8,7 +8,7 @@ use Rattle.mt_window.specs.Waits.{ServesInTime, KeepsBoard}
 use Rattle.mt_blocks.specs.Slices.{Piece}
 use Rattle.mt_fls.specs.declared.state.State.{State}
 use Rattle.mt_fls.specs.declared.state.State.TheVariants as state
-use Rattle.mt_fls.specs.State.{FlsTst, IsRunning, IsInside}
+use Rattle.mt_fls.specs.State.{FlsTst, IsFls, IsRunning, IsInside}
 use Rattle.mt_fls.specs.Table.{Service, MainFunction, row, after, fls_table}
 use Rattle.mt_fls.specs.Event.{of_pass, ticking, foreground_test}
 
@@ -32,6 +32,12 @@ IsTicking (state.Foreground b) = ⊥
 -- a tick compares nothing where just after boundary 0 the module is in neither INIT nor RUNNING, or the mark is set
 abbrev pub TicksRest : Type 0
 TicksRest = (o : Scene FlsTst) → (IsTicking o.callee.state → o.callee.mark ≡ true) → ran ticking o ≡ entered ticking o
+
+-- else it makes at least one access, where there is a background block
+abbrev pub TicksCompare : Type 0
+TicksCompare =
+    (o : Scene FlsTst) → IsFls o.callee → IsTicking o.callee.state → 0 < length o.callee.setting.config.bgnd → o.callee.mark ≡ false
+    → o.board.count < (ran ticking o).scene.board.count
 
 -- and it ends its group early only where the mark is set
 abbrev pub TicksEndTheirGroup : Type 0

@@ -1,5 +1,5 @@
 -- FlsTst as a contract sees it.
-use Rattle.std.specs.Prelude.{ℕ, ◌<◌, Bool, List, length, Option}
+use Rattle.std.specs.Prelude.{ℕ, ◌<◌, ◌≤◌, Bool, List, length, Option, IfSome}
 use Rattle.mt_port.specs.declared.board.Shape.{Shape}
 use Rattle.mt_window.specs.declared.reply.TestResult.{TestResult}
 use Rattle.mt_window.specs.declared.reply.Detail.{Detail}
@@ -88,3 +88,5 @@ place_of (state.Foreground b) = start
 pub record IsFls (f : FlsTst) : Type 0 where
   pub accepted : IsAcceptedFls f.setting.shape f.setting.config
   pub place : IsPlace f.setting.config f.state
+  -- no identifier is above the greatest
+  pub interval : IfSome f.completed (λ id. id ≤ f.setting.config.interval_end)

@@ -2,11 +2,12 @@
 
 ghost use Rattle.mt_window.specs.Waits.{ServesInTime, KeepsBoard};
 ghost use Rattle.mt_fls.specs.Event.{ticking};
-ghost use Rattle.mt_fls.specs.Laws.{ForegroundTestsServeInTime, ForegroundTestsKeepTheBoard, TicksRest, TicksEndTheirGroup, BoundariesMove, RequestsLeftMove, ServicesLeaveSetting};
+ghost use Rattle.mt_fls.specs.Laws.{ForegroundTestsServeInTime, ForegroundTestsKeepTheBoard, TicksRest, TicksCompare, TicksEndTheirGroup, BoundariesMove, RequestsLeftMove, ServicesLeaveSetting};
 
 use crate::block_walk::BlockWalk;
 use crate::pass_walk::PassWalk;
 use crate::state::Fls;
+use mt_blocks::{passes_begin, passes_go_on};
 use mt_window::{requests_are_served, waits_are_short};
 
 /// Each request of a running event is served where its offset says, and waits 0 or less than the length of the attempt
@@ -33,8 +34,12 @@ pub fn running_calls_keep_the_board()
 /// When a tick compares nothing, and when it ends its group early.
 pub fn ticks_end_by_the_mark()
     ensures rest { TicksRest }
+    ensures compare { TicksCompare }
     ensures group { TicksEndTheirGroup }
-{}
+{
+    passes_go_on();
+    passes_begin();
+}
 
 /// What handlers' calls leave of the module.
 pub fn handlers_leave_results()

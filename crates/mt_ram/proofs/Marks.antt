@@ -1,10 +1,13 @@
 -- What the mark of a tick stops.
-use Rattle.std.proofs.Common.{ℕ, zero, suc, ◌≡◌, Bool, true, false, cond, List, [], ◌∷◌, Option, Some, None, refl, sym, ap, ◌∙◌, arith, ◌<◌, ◌≤◌, ◌-◌, length, length-append, take, subst}
+use Rattle.std.proofs.Common.{ℕ, zero, suc, ◌≡◌, Bool, true, false, cond, List, [], ◌∷◌, Option, Some, None, refl, sym, ap, ◌∙◌, arith, ◌<◌, ◌≤◌, ◌-◌, ◌+◌, take, subst}
 use Rattle.std.proofs.lemmas.Bool.{le-leb}
-use Rattle.std.specs.Prelude.{is_some}
+use Rattle.std.specs.Prelude.{is_some, leb}
+use Rattle.mt_port.specs.declared.request.HandlerOp.{HandlerOp}
+use Rattle.mt_port.specs.declared.request.Request.{Request}
+use Rattle.mt_seq.specs.Laws.{NoAttemptIsEmpty}
 use Rattle.mt_seq.specs.declared.sequence.Verdict.{Verdict}
-use Rattle.mt_window.specs.Serving.{Scene, scene}
-use Rattle.mt_window.specs.Slices.{Trail, started, taken_by, kept_attempt, next_attempt, scene_behind, after_attempt, tried, slices}
+use Rattle.mt_window.specs.Serving.{Scene, scene, operated, operated_all, served, due_served}
+use Rattle.mt_window.specs.Slices.{Trail, started, taken_by, next_attempt, scene_behind, after_attempt, tried, slices}
 use Rattle.mt_window.specs.Events.{entered}
 use Rattle.mt_window.specs.Rows.{work_in, inside_of}
 use Rattle.mt_window.specs.Kept.{cond_case, StaysStopped, tried-keeps, slices-stopped, slices-keeps, slices-whole}
@@ -14,8 +17,8 @@ use Rattle.mt_blocks.specs.Laws.{PassesGoOn}
 use Rattle.mt_ram.specs.declared.state.State.{State}
 use Rattle.mt_ram.specs.declared.state.State.TheVariants.{Uninit, Stopped, Running, Suspended, Full, Partial}
 use Rattle.mt_ram.specs.State.{RamTst, IsRam, IsPlace, IsRunning, set_of, spans_in}
-use Rattle.mt_ram.specs.Table.{MainFunction, cell, group_at}
-use Rattle.mt_ram.specs.Event.{of_pass, ticking}
+use Rattle.mt_ram.specs.Table.{MainFunction, cell, group_at, ram_table}
+use Rattle.mt_ram.specs.Event.{job_of, of_pass, ticking}
 use Rattle.mt_ram.specs.Laws.{TicksRest, TicksTest, TicksEndTheirGroup}
 use Rattle.mt_ram.proofs.Moves.{boundaries_move}
 use Rattle.mt_ram.proofs.Sets.{accepted_set, accepted_spans}
@@ -52,26 +55,44 @@ ticks_end_their_group o e = slices-whole of_pass stays_stopped (work_in (cell o.
 
 -- ---- a tick that tests something
 
-attempt_more : (may : Bool) (x : Piece) (g : Trail RamTst) → 0 < length (after_attempt of_pass may g x).attempts
-attempt_more may x g = omega (arith, length-append g.attempts (kept_attempt of_pass may g x ∷ []))
+operated_all-count : (ops : List HandlerOp) (s : Scene RamTst) → (operated_all ram_table ops s).board.count ≡ s.board.count
+operated_all-count [] s = refl
+operated_all-count (op ∷ ops) s = operated_all-count ops (operated ram_table s op)
 
-keeps_some : (may : Bool) (x : Piece) (g : Trail RamTst) → 0 < length g.attempts → 0 < length (after_attempt of_pass may g x).attempts
-keeps_some may x g h = attempt_more may x g
+due_served-count : (rs : List Request) (s : Scene RamTst) → (due_served ram_table rs s).board.count ≡ s.board.count
+due_served-count [] s = refl
+due_served-count (r ∷ rs) s =
+    let z = served ram_table r (s.board.count - r.offset) s in
+    cond_case (λ (x : Scene RamTst). x.board.count ≡ s.board.count) (leb r.offset s.board.count) (due_served ram_table rs z) s (due_served-count rs z ∙ operated_all-count r.ops.items _) refl
 
-tried_some : (n : ℕ) (x : Piece) (g : Trail RamTst) → g.scene.callee.mark ≡ false → 0 < length (tried of_pass n x g).attempts
-tried_some zero x g e = subst (λ (m : Bool). 0 < length (cond m g (after_attempt of_pass false g x)).attempts) (sym e) (attempt_more false x g)
-tried_some (suc n) x g e =
+-- the count behind an attempt, and its boundary
+attempt_count : (may : Bool) (x : Piece) (g : Trail RamTst) → (after_attempt of_pass may g x).scene.board.count ≡ g.scene.board.count + (next_attempt of_pass may g x).count
+attempt_count may x g = let mid = scene_behind of_pass may g x in due_served-count mid.board.left mid
+
+abbrev Passes : ℕ → Trail RamTst → Type 0
+Passes n h = n < h.scene.board.count
+
+attempt_more : NoAttemptIsEmpty → (may : Bool) (x : Piece) (g : Trail RamTst) → 1 ≤ x.slice.n → Passes g.scene.board.count (after_attempt of_pass may g x)
+attempt_more some may x g words = omega (arith, attempt_count may x g, some may g.scene.board (job_of g.scene.callee x) x.slice words)
+
+keeps_more : (n : ℕ) (may : Bool) (x : Piece) (g : Trail RamTst) → Passes n g → Passes n (after_attempt of_pass may g x)
+keeps_more n may x g h = omega (arith, h, attempt_count may x g)
+
+tried_some : NoAttemptIsEmpty → (n : ℕ) (x : Piece) (g : Trail RamTst) → 1 ≤ x.slice.n → g.scene.callee.mark ≡ false → Passes g.scene.board.count (tried of_pass n x g)
+tried_some some zero x g words e =
+    subst (λ (m : Bool). Passes g.scene.board.count (cond m g (after_attempt of_pass false g x))) (sym e) (attempt_more some false x g words)
+tried_some some (suc n) x g words e =
     let z = after_attempt of_pass true g x in
     let b = is_some (next_attempt of_pass true g x).verdict in
-    subst (λ (m : Bool). 0 < length (cond m g (cond b z (tried of_pass n x z))).attempts) (sym e)
-    (cond_case (λ (h : Trail RamTst). 0 < length h.attempts) b z (tried of_pass n x z) (attempt_more true x g)
-    (tried-keeps of_pass (λ (h : Trail RamTst). 0 < length h.attempts) keeps_some n x z (attempt_more true x g)))
+    let more = attempt_more some true x g words in
+    subst (λ (m : Bool). Passes g.scene.board.count (cond m g (cond b z (tried of_pass n x z)))) (sym e)
+    (cond_case (Passes g.scene.board.count) b z (tried of_pass n x z) more (tried-keeps of_pass (Passes g.scene.board.count) (keeps_more g.scene.board.count) n x z more))
 
-slices_some : (x : Piece) (more L : List Piece) (g : Trail RamTst) → L ≡ x ∷ more → g.scene.callee.mark ≡ false → 0 < length (slices of_pass L g).attempts
-slices_some x more L g split e =
+slices_some : NoAttemptIsEmpty → (x : Piece) (more L : List Piece) (g : Trail RamTst) → L ≡ x ∷ more → 1 ≤ x.slice.n → g.scene.callee.mark ≡ false → Passes g.scene.board.count (slices of_pass L g)
+slices_some some x more L g split words e =
     let n = of_pass.retries g.scene.callee in
-    subst (λ (l : List Piece). 0 < length (slices of_pass l g).attempts) (sym split)
-    (slices-keeps of_pass (λ (h : Trail RamTst). 0 < length h.attempts) keeps_some more (tried of_pass n x g) (tried_some n x g e))
+    subst (λ (l : List Piece). Passes g.scene.board.count (slices of_pass l g)) (sym split)
+    (slices-keeps of_pass (Passes g.scene.board.count) (keeps_more g.scene.board.count) more (tried of_pass n x g) (tried_some some n x g words e))
 
 -- the group at a place has a slice
 group_some : (cells : ℕ) (x : Piece) (more L : List Piece) → L ≡ x ∷ more → x.slice.n ≤ cells → group cells L ≡ x ∷ take (group_len (cells - x.slice.n) more) more
@@ -79,22 +100,24 @@ group_some cells x more L split fits =
     ap (group cells) split
     ∙ ap (λ (b : Bool). take (cond b (suc (group_len (cells - x.slice.n) more)) 0) (x ∷ more)) (le-leb x.slice.n cells fits)
 
-some_tested : PassesGoOn → (o : Scene RamTst) (s : State) → IsRam o.callee → IsPlace (set_of o.callee) s → IsRunning s → o.callee.mark ≡ false
-    → 0 < length (slices of_pass (work_in (cell o.callee MainFunction s)) (started false (scene o.board (inside_of (cell o.callee MainFunction s) o.callee) o.log))).attempts
-some_tested go o Uninit ok valid running e = absurd running
-some_tested go o Stopped ok valid running e = absurd running
-some_tested go o (Running p) ok valid running e =
+some_tested : NoAttemptIsEmpty → PassesGoOn → (o : Scene RamTst) (s : State) → IsRam o.callee → IsPlace (set_of o.callee) s → IsRunning s → o.callee.mark ≡ false
+    → o.board.count < (slices of_pass (work_in (cell o.callee MainFunction s)) (started false (scene o.board (inside_of (cell o.callee MainFunction s) o.callee) o.log))).scene.board.count
+some_tested some go o Uninit ok valid running e = absurd running
+some_tested some go o Stopped ok valid running e = absurd running
+some_tested some go o (Running p) ok valid running e =
     let r = o.callee in
     let K = (set_of r).atomic in
     let spans = spans_in r in
-    let goes = go K spans p (accepted_spans r.setting.shape (set_of r) ok.accepted.limits (accepted_set r ok)) valid in
+    let set = accepted_set r ok in
+    let goes = go K spans p (accepted_spans r.setting.shape (set_of r) ok.accepted.limits set) valid in
     let x = piece_at K spans p in
     let rest = from_next K spans (next_of K spans p) in
     let small : x.slice.n ≤ r.cells = omega (arith, ok.low) in
-    slices_some x _ (group_at r p) (started false o) (group_some r.cells x rest (from_place K spans p) goes.pass small) e
-some_tested go o (Suspended p) ok valid running e = absurd running
-some_tested go o Full ok valid running e = absurd running
-some_tested go o (Partial back) ok valid running e = absurd running
+    let words : 1 ≤ x.slice.n = omega (arith, valid.offset, set.atomic_some) in
+    slices_some some x _ (group_at r p) (started false o) (group_some r.cells x rest (from_place K spans p) goes.pass small) words e
+some_tested some go o (Suspended p) ok valid running e = absurd running
+some_tested some go o Full ok valid running e = absurd running
+some_tested some go o (Partial back) ok valid running e = absurd running
 
-pub ticks_test : PassesGoOn → TicksTest
-ticks_test go o ok running e = some_tested go o o.callee.state ok ok.place running e
+pub ticks_test : NoAttemptIsEmpty → PassesGoOn → TicksTest
+ticks_test some go o ok running e = some_tested some go o o.callee.state ok ok.place running e

@@ -1,5 +1,5 @@
 -- What running events and boundaries are known by.
-use Rattle.std.specs.Prelude.{ℕ, ◌≡◌, ◌<◌, length, Bool, true, false, None}
+use Rattle.std.specs.Prelude.{ℕ, ◌≡◌, ◌<◌, Bool, true, false, None}
 use Rattle.mt_plan.specs.Plan.{IsAccepted}
 use Rattle.mt_port.specs.Board.{Board}
 use Rattle.mt_window.specs.Serving.{Scene, serve_due, serve_left}
@@ -30,9 +30,9 @@ DroppedAttemptsLeaveWords = (may : Bool) (r : RamTst) (p : Piece) (b : Board) �
 abbrev pub TicksRest : Type 0
 TicksRest = (o : Scene RamTst) → (IsRunning o.callee.state → o.callee.mark ≡ true) → ran ticking o ≡ entered ticking o
 
--- else it makes at least one attempt, where the module's set is an accepted one
+-- else it makes at least one access, where the module's set is an accepted one
 abbrev pub TicksTest : Type 0
-TicksTest = (o : Scene RamTst) → IsRam o.callee → IsRunning o.callee.state → o.callee.mark ≡ false → 0 < length (ran ticking o).attempts
+TicksTest = (o : Scene RamTst) → IsRam o.callee → IsRunning o.callee.state → o.callee.mark ≡ false → o.board.count < (ran ticking o).scene.board.count
 
 -- and it ends its group early only where the mark is set
 abbrev pub TicksEndTheirGroup : Type 0
@@ -60,3 +60,6 @@ ServicesLeaveSetting = (r : RamTst) (service : Service) → (after r service).se
 
 abbrev pub LeavesSetting : Events RamTst Piece Verdict → Type 0
 LeavesSetting call = (s : Scene RamTst) → ((event call s).after.callee).setting ≡ s.callee.setting
+
+abbrev pub PartialTestsLeaveSetting : Type 0
+PartialTestsLeaveSetting = (block : ℕ) → LeavesSetting (partial_test block)

@@ -3,13 +3,13 @@
 ghost use Rattle.mt_ram.specs.Event.{ticking, full_test};
 ghost use Rattle.mt_window.specs.Waits.{ServesInTime, KeepsBoard};
 ghost use Rattle.mt_ram.specs.Plain.{LeavesNoTrace, PartialTestsLeaveNoTrace};
-ghost use Rattle.mt_ram.specs.Laws.{PartialTestsServeInTime, PartialTestsKeepTheBoard, DroppedAttemptsLeaveWords, TicksRest, TicksTest, TicksEndTheirGroup, BoundariesMove, RequestsLeftMove, ServicesLeaveSetting};
+ghost use Rattle.mt_ram.specs.Laws.{PartialTestsServeInTime, PartialTestsKeepTheBoard, DroppedAttemptsLeaveWords, TicksRest, TicksTest, TicksEndTheirGroup, BoundariesMove, RequestsLeftMove, ServicesLeaveSetting, LeavesSetting, PartialTestsLeaveSetting};
 
 use crate::pass_walk::PassWalk;
 use crate::state::Ram;
 use crate::test_walk::TestWalk;
 use mt_blocks::passes_go_on;
-use mt_seq::{attempts_on_sound_memory, urgent_requests_wait_shortly};
+use mt_seq::{attempts_are_counted, attempts_on_sound_memory, urgent_requests_wait_shortly};
 use mt_window::{requests_are_served, waits_are_short};
 
 /// Each request of a running event is served where its offset says, and waits 0 or less than the length of the attempt
@@ -61,6 +61,7 @@ pub fn ticks_end_by_the_mark()
     ensures group { TicksEndTheirGroup }
 {
     passes_go_on();
+    attempts_are_counted();
 }
 
 /// What handlers' calls leave of the module.
@@ -72,4 +73,11 @@ pub fn handlers_leave_results()
 /// No service changes the configuration or the shape.
 pub fn services_leave_setting()
     ensures { ServicesLeaveSetting }
+{}
+
+/// No running call changes them either.
+pub fn running_calls_leave_setting()
+    ensures tick { LeavesSetting ticking }
+    ensures full { LeavesSetting full_test }
+    ensures partial { PartialTestsLeaveSetting }
 {}

@@ -46,7 +46,7 @@ read_accepted : AcceptedIsTaken → (r : Option Members) (c : Config) → read_o
 read_accepted law None c h = absurd cc
 read_accepted law (Some t) c h = judged_accepted law t (first_broken t) c refl h
 
-config_accepted : AcceptedIsTaken → (bytes : List ℕ) (c : Config) → config_of bytes ≡ Ok c → IsAcceptedConfig c
+pub config_accepted : AcceptedIsTaken → (bytes : List ℕ) (c : Config) → config_of bytes ≡ Ok c → IsAcceptedConfig c
 unfolding config_of
 config_accepted law bytes c h = read_accepted law (document bytes) c h
 

@@ -106,6 +106,7 @@ play-short : RunningCalls → (form : Form) (shape : Shape) (n : ℕ) (m : Machi
 play-short calls forms.Run shape n m lines h = played-short calls shape n m lines h
 play-short calls forms.Check shape n m lines h = All-none
 play-short calls forms.Format shape n m lines h = All-none
+play-short calls forms.Migrate shape n m lines h = All-none
 play-short calls (forms.Cut ask) shape n m lines h = All-none
 
 configured-short : RunningCalls → (form : Form) (ending : Ending) (defect : Option Fault) (r : Result Config ConfigRefusal) (script : Cut) → All ServesInTime (configured form ending defect r script).steps

@@ -16,3 +16,6 @@ pub mod Openings
 pub mod Fixed
 pub mod Ticks
 pub mod Cuts
+pub mod Plain
+pub mod Memories
+pub mod PlainMemories

@@ -6,6 +6,8 @@ pub mod Cut
 pub mod Outcome
 pub mod Changes
 pub mod Latency
+pub mod Plain
+pub mod Memory
 pub mod Ticks
 pub mod Replay
 pub mod Fixed

@@ -64,9 +64,12 @@ pub record Play : Type 0 where
 abbrev pub stepped : Step → Play → Play
 stepped s more = record { steps = s ∷ more.steps; after = more.after }
 
+abbrev pub played_by : (Machine → Line → Step) → Machine → List Line → Play
+played_by does m [] = record { steps = []; after = m }
+played_by does m (line ∷ more) = stepped (does m line) (played_by does (does m line).after more)
+
 abbrev pub played : Machine → List Line → Play
-played m [] = record { steps = []; after = m }
-played m (line ∷ more) = stepped (step m line) (played (step m line).after more)
+played m lines = played_by step m lines
 
 -- the trace lines of steps, the first of which has this number, and all their accesses
 abbrev pub steps_text : Shape → ℕ → List Step → List ℕ

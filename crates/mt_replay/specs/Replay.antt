@@ -18,6 +18,8 @@ use Rattle.mt_replay.specs.Input.{Ending, Finished, Failed}
 use Rattle.mt_replay.specs.Outcome.{After, Outcome, outcome}
 use Rattle.mt_replay.specs.Changes.{Change, UsesBoard}
 use Rattle.mt_replay.specs.Latency.{ServesInTime}
+use Rattle.mt_replay.specs.Plain.{ReplaysLeaveNoTrace}
+use Rattle.mt_replay.specs.Memory.{ReplaysArePlain}
 use Rattle.mt_replay.specs.Ticks.{TicksAreLeast}
 
 -- ---- the words
@@ -159,6 +161,15 @@ Completes (Some form) result defect left source source' sink sink' =
 abbrev pub AreServedInTime : Option Form → Option Fault → Type 0
 AreServedInTime None defect = Unit {0}
 AreServedInTime (Some form) defect = (ending : Ending) (bytes : List ℕ) → All ServesInTime (outcome form ending defect bytes).steps
+
+-- On sound memory no test of a replay touches a word of the application; where no block is destructive, the application finds a plain memory.
+abbrev pub LeavesNoTrace : Option Form → Option Fault → Type 0
+LeavesNoTrace None defect = Unit {0}
+LeavesNoTrace (Some forms.Run) defect = ReplaysLeaveNoTrace defect × ReplaysArePlain defect
+LeavesNoTrace (Some forms.Check) defect = Unit {0}
+LeavesNoTrace (Some forms.Format) defect = Unit {0}
+LeavesNoTrace (Some forms.Migrate) defect = Unit {0}
+LeavesNoTrace (Some (forms.Cut ask)) defect = Unit {0}
 
 -- Where the cuts of a set are asked for, no cut under the budget has fewer ticks than are told.
 abbrev pub TellsLeastTicks : Option Form → Option Fault → Type 0

@@ -2,15 +2,22 @@
 
 ghost use Rattle.std.specs.Prelude.{◌≡◌};
 ghost use Rattle.mt_replay.specs.Changes.{change};
-ghost use Rattle.mt_replay.specs.Replay.{form_named, ask_of, ask_named, form_of, Replays, StatusCaused, LeavesBoard, IsLeftFree, Completes, AreServedInTime, TellsLeastTicks};
+ghost use Rattle.mt_replay.specs.Replay.{form_named, ask_of, ask_named, form_of, Replays, StatusCaused, LeavesBoard, IsLeftFree, Completes, AreServedInTime, LeavesNoTrace, TellsLeastTicks};
 
 use crate::form::{Ask, Form};
 use crate::job::{replay_job, tell};
 use crate::status::Status;
+use mt_conf::accepted_is_taken;
 use mt_cut::longest_runs_are_least;
-use mt_fls::waits_of_running_calls as fls_waits;
+use mt_fls::{
+    running_calls_keep_the_board as fls_keeps_the_board, waits_of_running_calls as fls_waits,
+};
 use mt_port::{Bench, Sink, Source};
-use mt_ram::waits_of_running_calls as ram_waits;
+use mt_ram::{
+    running_calls_keep_the_board as ram_keeps_the_board, running_calls_leave_setting,
+    services_leave_setting, tests_leave_no_trace, waits_of_running_calls as ram_waits,
+};
+use mt_seq::attempts_on_sound_memory;
 use mt_text::number_of;
 use std::alloc::Global;
 
@@ -92,6 +99,11 @@ pub fn replay<S: Source, K: Sink, B: Bench>(
     // Whatever bytes the job has, each request of its replay is served where its offset says; it waits 0, or less than the
     // length of the attempt that it meets; and an urgent one at most the words of the slice, where the attempt may be dropped.
     ensures latency { AreServedInTime (form_of words.now) (B.state board.old).defect }
+    // Whatever bytes the job has, where the board has no fault at the start and no line injects one, its replay comes to the
+    // same where no test touches a word of the application, but that each sequence that has ended leaves the fill of a
+    // destructive block: the same answers, waits and results, and the same words after each line. Where no block is
+    // destructive, each answer of the application is that of a plain memory on which its operations are done in script order.
+    ensures transparent { LeavesNoTrace (form_of words.now) (B.state board.old).defect }
     // Whatever bytes the job has, no cut under the budget has fewer ticks than `cut` tells.
     ensures least { TellsLeastTicks (form_of words.now) (B.state board.old).defect }
 {
@@ -99,6 +111,14 @@ pub fn replay<S: Source, K: Sink, B: Bench>(
     longest_runs_are_least();
     ram_waits();
     fls_waits();
+    // On sound memory tests leave no trace.
+    accepted_is_taken();
+    attempts_on_sound_memory();
+    tests_leave_no_trace();
+    services_leave_setting();
+    running_calls_leave_setting();
+    ram_keeps_the_board();
+    fls_keeps_the_board();
     match form_of(words) {
         Some(form) => replay_job(alloc, form, source, sink, board),
         None => tell(sink, b"usage\n", Status::Usage),

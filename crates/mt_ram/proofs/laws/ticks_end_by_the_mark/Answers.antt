@@ -8,4 +8,4 @@ pub returns-clause-group : goal.returns-clause-group
 returns-clause-group c = ticks_end_their_group
 
 pub returns-clause-test : goal.returns-clause-test
-returns-clause-test c = ticks_test c.passes_go_on.ensures
+returns-clause-test c = ticks_test c.attempts_are_counted.ensures.some c.passes_go_on.ensures

@@ -14,6 +14,9 @@ use Rattle.mt_replay.specs.Replay.{Completes}
 use Rattle.mt_replay.proofs.Jobs.{completes}
 use Rattle.mt_replay.proofs.Latencies.{are_served_in_time}
 use Rattle.mt_replay.proofs.Cuts.{tells_least_ticks}
+use Rattle.mt_replay.proofs.Defects.{boards_stay}
+use Rattle.mt_replay.proofs.Plain.{leave_no_trace}
+use Rattle.mt_replay.proofs.PlainMemories.{leaves_no_trace}
 use Rattle.mt_replay.proofs.top.replay.Goals as goal
 
 pub returns-in-Some-clause-complete : goal.returns-in-Some-clause-complete
@@ -50,3 +53,23 @@ returns-in-Some-clause-least g c = tells_least_ticks c.longest_runs_are_least.en
 
 pub returns-in-None-clause-least : goal.returns-in-None-clause-least
 returns-in-None-clause-least g c = tells_least_ticks c.longest_runs_are_least.ensures.under c.longest_runs_are_least.ensures.least _ (g.B.Port.state c.args.board.now).defect
+
+pub returns-in-Some-clause-transparent : goal.returns-in-Some-clause-transparent
+returns-in-Some-clause-transparent g c =
+    let traces = c.tests_leave_no_trace.ensures in
+    let settings = c.running_calls_leave_setting.ensures in
+    let ram = c.running_calls_keep_the_board.ensures in
+    let fls = c.running_calls_keep_the_board-2.ensures in
+    leaves_no_trace (leave_no_trace traces.tick traces.full traces.partial settings.tick settings.full settings.partial c.services_leave_setting.ensures
+        (boards_stay ram.tick ram.full ram.partial fls.tick fls.foreground))
+    (record { stays = c.attempts_on_sound_memory.ensures.stays; passes = c.attempts_on_sound_memory.ensures.passes }) c.accepted_is_taken.ensures _ (g.B.Port.state c.args.board.now).defect
+
+pub returns-in-None-clause-transparent : goal.returns-in-None-clause-transparent
+returns-in-None-clause-transparent g c =
+    let traces = c.tests_leave_no_trace.ensures in
+    let settings = c.running_calls_leave_setting.ensures in
+    let ram = c.running_calls_keep_the_board.ensures in
+    let fls = c.running_calls_keep_the_board-2.ensures in
+    leaves_no_trace (leave_no_trace traces.tick traces.full traces.partial settings.tick settings.full settings.partial c.services_leave_setting.ensures
+        (boards_stay ram.tick ram.full ram.partial fls.tick fls.foreground))
+    (record { stays = c.attempts_on_sound_memory.ensures.stays; passes = c.attempts_on_sound_memory.ensures.passes }) c.accepted_is_taken.ensures _ (g.B.Port.state c.args.board.now).defect

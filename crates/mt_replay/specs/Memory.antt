@@ -1,0 +1,109 @@
+-- The application's memory: what its operations find and leave, with no test, no fault and no module.
+use Rattle.std.specs.Prelude.{ℕ, ◌≡◌, ◌≤◌, Unit, List, [], ◌∷◌, map, flat_map, length, All, Option, Some, None, Ok}
+use Rattle.mt_fault.specs.declared.fault.Fault.{Fault}
+use Rattle.mt_port.specs.declared.board.Shape.{Shape}
+use Rattle.mt_port.specs.declared.request.AppOp.{AppOp}
+use Rattle.mt_port.specs.declared.request.Answer.{Answer}
+use Rattle.mt_port.specs.declared.request.HandlerOp.{HandlerOp}
+use Rattle.mt_port.specs.declared.request.HandlerOp.TheVariants.{App, Call}
+use Rattle.mt_port.specs.declared.request.Request.{Request}
+use Rattle.mt_port.specs.Board.{Board, powered_up, op_words, op_answer}
+use Rattle.mt_plan.specs.declared.algorithm.Policy.TheVariants.{NonDestructive}
+use Rattle.mt_window.specs.declared.log.Entry.{Entry}
+use Rattle.mt_window.specs.declared.log.Entry.TheVariants.{Served, Inner, Own}
+use Rattle.mt_window.specs.declared.reply.Reply.{Reply}
+use Rattle.mt_window.specs.Serving.{given}
+use Rattle.mt_blocks.specs.declared.config.ParamSet.{ParamSet}
+use Rattle.mt_blocks.specs.declared.config.Block.{Block}
+use Rattle.mt_text.specs.declared.line.Event.{Event}
+use Rattle.mt_text.specs.declared.line.Event.TheVariants as event
+use Rattle.mt_text.specs.declared.line.Line.{Line}
+use Rattle.mt_conf.specs.declared.config.Config.{Config}
+use Rattle.mt_conf.specs.Outcome.{outcome as config_of}
+use Rattle.mt_replay.specs.declared.form.Form.TheVariants as forms
+use Rattle.mt_replay.specs.Input.{Ending, Cut, Parted, job_of}
+use Rattle.mt_replay.specs.Machine.{Machine, Step, started}
+use Rattle.mt_replay.specs.Script.{script_from}
+use Rattle.mt_replay.specs.Outcome.{outcome}
+use Rattle.mt_replay.specs.Plain.{InjectsNothing}
+
+-- ---- a plain memory
+
+-- a memory without a fault that holds these words
+abbrev pub plain : Shape → (words flash : List ℕ) → Board
+plain shape words flash = record (powered_up shape 0 None) { words = words; flash = flash }
+
+-- the words after operations that are done in order, and their answers
+abbrev pub words_after : Shape → (words flash : List ℕ) → List AppOp → List ℕ
+words_after shape words flash [] = words
+words_after shape words flash (op ∷ more) = words_after shape (op_words (plain shape words flash) op) flash more
+
+abbrev pub answers_of : Shape → (words flash : List ℕ) → List AppOp → List Answer
+answers_of shape words flash [] = []
+answers_of shape words flash (op ∷ more) = op_answer (plain shape words flash) op ∷ answers_of shape (op_words (plain shape words flash) op) flash more
+
+-- ---- the operations of a line, in the order of its text
+
+-- all that handlers do, and the application's operations among it
+abbrev pub handled : List Request → List HandlerOp
+handled requests = flat_map (λ r. r.ops.items) requests
+
+abbrev pub operations_in : List HandlerOp → List AppOp
+operations_in [] = []
+operations_in (App op ∷ more) = op ∷ operations_in more
+operations_in (Call call ∷ more) = operations_in more
+
+-- those of a line: its own, or those of its requests' handlers
+abbrev pub operations_of : Event → List Request → List AppOp
+operations_of (event.App op) requests = op ∷ []
+operations_of other requests = operations_in (handled requests)
+
+-- ---- their answers in the trace
+
+-- the replies to what handlers do, in order, and those to the application's operations among them
+abbrev pub inner_replies : List Entry → List Reply
+inner_replies [] = []
+inner_replies (Served number at wait ∷ more) = inner_replies more
+inner_replies (Inner reply ∷ more) = reply ∷ inner_replies more
+inner_replies (Own reply ∷ more) = inner_replies more
+
+abbrev pub replies_in : List HandlerOp → List Reply → List Reply
+replies_in (App op ∷ more) (reply ∷ replies) = reply ∷ replies_in more replies
+replies_in (Call call ∷ more) (reply ∷ replies) = replies_in more replies
+replies_in ops replies = []
+
+-- the line's own reply
+abbrev pub own_replies : List Entry → List Reply
+own_replies [] = []
+own_replies (Served number at wait ∷ more) = own_replies more
+own_replies (Inner reply ∷ more) = own_replies more
+own_replies (Own reply ∷ more) = reply ∷ own_replies more
+
+abbrev pub replies_of : Event → List Request → List Entry → List Reply
+replies_of (event.App op) requests entries = own_replies entries
+replies_of other requests entries = replies_in (handled requests) (inner_replies entries)
+
+-- ---- a replay
+
+-- A step answers the application's operations as a plain memory does on which they are done in order, and leaves that memory's words.
+pub record IsPlain (m : Machine) (line : Line) (s : Step) : Type 0 where
+  pub answers : replies_of line.event s.requests s.entries ≡ map given (answers_of m.board.shape m.board.words m.board.flash (operations_of line.event s.requests))
+  pub words : s.after.board.words ≡ words_after m.board.shape m.board.words m.board.flash (operations_of line.event s.requests)
+
+-- so do all steps of some lines, in order
+abbrev pub ArePlain : Machine → List Line → List Step → Type 0
+ArePlain m [] [] = Unit {0}
+ArePlain m (line ∷ lines) (s ∷ steps) = IsPlain m line s × ArePlain s.after lines steps
+ArePlain m lines steps = ⊥
+
+-- no block of a set is destructive
+abbrev pub KeepsWords : ParamSet → Type 0
+KeepsWords set = All (λ block. block.policy ≡ NonDestructive) set.blocks
+
+-- Where the board has no fault at the start, no line injects one, and no block of the configuration is destructive, the application of a
+-- replay finds a plain memory.
+abbrev pub ReplaysArePlain : Option Fault → Type 0
+ReplaysArePlain defect =
+    (ending : Ending) (bytes text : List ℕ) (script : Cut) (c : Config) → job_of ending bytes ≡ Parted text script → config_of text ≡ Ok c
+    → length text ≤ 65536 → (started c defect).board.fault ≡ None → All InjectsNothing (script_from c.shape ending 1 script).lines → All KeepsWords c.ram_tst.sets
+    → ArePlain (started c defect) (script_from c.shape ending 1 script).lines (outcome forms.Run ending defect bytes).steps
