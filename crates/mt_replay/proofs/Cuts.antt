@@ -42,4 +42,5 @@ tells_least_ticks under least None defect = tt
 tells_least_ticks under least (Some forms.Run) defect = tt
 tells_least_ticks under least (Some forms.Check) defect = tt
 tells_least_ticks under least (Some forms.Format) defect = tt
+tells_least_ticks under least (Some forms.Migrate) defect = tt
 tells_least_ticks under least (Some (forms.Cut ask)) defect = ticks_are_least under least ask defect

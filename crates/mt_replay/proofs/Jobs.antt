@@ -5,7 +5,7 @@ use Rattle.std.proofs.lemmas.Bool.{lt-leb, lt-ltb}
 use Rattle.std.specs.Io.KnownBytes.{prepend_known, Appends}
 use Rattle.mt_port.specs.Causes.{Rose}
 use Rattle.mt_port.specs.Streams.{WhereTold, AppendsFront}
-use Rattle.mt_port.specs.Board.{Board, Logs}
+use Rattle.mt_port.specs.Board.{Board, Logs, powered_up}
 use Rattle.mt_port.specs.declared.board.Shape.{Shape}
 use Rattle.mt_port.specs.declared.board.Touch.{Touch}
 use Rattle.mt_port.proofs.StreamLemmas.{Appends-trans, AppendsFront-after, AppendsFront-more, WhereTold-map}
@@ -181,6 +181,15 @@ task_end-is : (e : End) (form : Form) (c : Config) (task : Task) → IsTask form
 task_end-is (end.Whole count) form c task t = ap (λ (f : Form). closing_of f task.set count) t.same ∙ closing-is form c task.set count t.set
 task_end-is (end.Refused line code at) form c task t = refl
 task_end-is end.Broken form c task t = refl
+
+-- a board that was powered up keeps its defect
+pub begun_uses : (form : Form) (c : Config) (m : Machine) (before : Board) (was tape : Option (List Touch)) → BeginsAs form c before.defect m before was tape → UsesBoard form before m.board was tape
+unfolding powered_up
+begun_uses forms.Run c m before was tape begins = ap (λ (n : Machine). n.board.defect) begins.0
+begun_uses forms.Check c m before was tape begins = begins
+begun_uses forms.Format c m before was tape begins = begins
+begun_uses forms.Migrate c m before was tape begins = begins
+begun_uses (forms.Cut ask) c m before was tape begins = begins
 
 board_is : (form : Form) (c : Config) (defect : Option MemoryFault) (m m' : Machine) (before : Board) (was tape tape' : Option (List Touch)) (play : Play)
     → BeginsAs form c defect m before was tape → UsesBoard form m.board m'.board tape tape' → m' ≡ play.after → Logs tape tape' (steps_touches play.steps)

@@ -1,5 +1,5 @@
 -- What the application finds in an event whose attempts leave the words.
-use Rattle.std.proofs.Common.{ℕ, zero, suc, ◌≡◌, ◌+◌, ◌-◌, Bool, true, false, cond, List, [], ◌∷◌, ◌++◌, length, map, drop, Option, Some, None, refl, sym, ap, ◌∙◌, subst, arith, append_assoc, append-nil}
+use Rattle.std.proofs.Common.{ℕ, zero, suc, ◌≡◌, ◌+◌, ◌-◌, Bool, true, false, cond, List, [], ◌∷◌, ◌++◌, length, map, drop, Option, Some, None, refl, sym, ap, ◌∙◌, subst, arith, append_assoc, append-nil, length-append}
 use Rattle.std.specs.Prelude.{leb, nat_le, flat_map}
 use Rattle.mt_port.specs.declared.board.Shape.{Shape}
 use Rattle.mt_fault.specs.declared.fault.Fault.{Fault}
@@ -45,15 +45,11 @@ pub record Finds {C : Type 0} (z : Start) (all pending : List HandlerOp) (s : Sc
 
 -- ---- lists
 
-inner-append : (a b : List Entry) → inner_replies (a ++ b) ≡ inner_replies a ++ inner_replies b
+pub inner-append : (a b : List Entry) → inner_replies (a ++ b) ≡ inner_replies a ++ inner_replies b
 inner-append [] b = refl
 inner-append (Served number at wait ∷ a) b = inner-append a b
 inner-append (Inner reply ∷ a) b = ap (λ (l : List Reply). reply ∷ l) (inner-append a b)
 inner-append (Own reply ∷ a) b = inner-append a b
-
-length-append : {X : Type 0} (a b : List X) → length (a ++ b) ≡ length a + length b
-length-append [] b = refl
-length-append (x ∷ a) b = ap (λ (n : ℕ). suc n) (length-append a b)
 
 operations-append : (a b : List HandlerOp) → operations_in (a ++ b) ≡ operations_in a ++ operations_in b
 operations-append [] b = refl

@@ -67,14 +67,14 @@ leave_no_trace tick full partial tick_setting full_setting partial_setting servi
     settings (rams.Partial block) = partial_setting block
 
 -- a machine on sound memory, whose RamTst has this setting
-pub record IsSound (setting : Setting) (m : Machine) : Type 0 where
+pub record IsSound (z : Setting) (m : Machine) : Type 0 where
   pub fault : m.board.fault ≡ None
-  pub setting : m.modules.ram.setting ≡ setting
+  pub setting : m.modules.ram.setting ≡ z
 
 -- ---- one line
 
 -- the step of an event, by what it comes to
-step_of : (with : Board → RamTst → Machine) (s : Scene RamTst) → EventOutcome RamTst → List Touch → List Attempt → Step
+abbrev step_of : (with : Board → RamTst → Machine) (s : Scene RamTst) → EventOutcome RamTst → List Touch → List Attempt → Step
 step_of with s o touches attempts = record {
   after = with (record (o.after.board) { count = 0 }) o.after.callee;
   entries = o.after.log ++ Own o.reply ∷ [];

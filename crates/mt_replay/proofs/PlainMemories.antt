@@ -29,7 +29,7 @@ use Rattle.mt_blocks.specs.Slices.{Piece}
 use Rattle.mt_blocks.specs.Accepted.{set_at, block_at}
 use Rattle.mt_ram.specs.State.{Setting, RamTst}
 use Rattle.mt_ram.specs.Table.{Service, MainFunction, RunFullTest, RunPartialTest, row}
-use Rattle.mt_ram.specs.Event.{job_of, running as ram_running, of_pass, of_test}
+use Rattle.mt_ram.specs.Event.{job_of as test_of, running as ram_running, of_pass, of_test}
 use Rattle.mt_ram.specs.Kept.{cell_leaves, handlers_leave_setting}
 use Rattle.mt_ram.specs.Plain.{HasAcceptedMarches}
 use Rattle.mt_fls.specs.State.{FlsTst}
@@ -73,14 +73,14 @@ pub record Attempts : Type 0 where
   pub stays : DroppedAttemptsStay
   pub passes : WholeAttemptsPass
 
-attempt-leaves : Attempts → (may : Bool) (r : RamTst) (p : Piece) (b : Board) → Keeps r → b.fault ≡ None → attempt_words may b (job_of r p) p.slice ≡ b.words
-attempt-leaves known may r p b (marches, keeps) sound = of (attempt_verdict may b (job_of r p) p.slice) refl
+attempt-leaves : Attempts → (may : Bool) (r : RamTst) (p : Piece) (b : Board) → Keeps r → b.fault ≡ None → attempt_words may b (test_of r p) p.slice ≡ b.words
+attempt-leaves known may r p b (marches, keeps) sound = of (attempt_verdict may b (test_of r p) p.slice) refl
   where
-    of : (v : Option Verdict) → attempt_verdict may b (job_of r p) p.slice ≡ v → attempt_words may b (job_of r p) p.slice ≡ b.words
-    of None e = known.stays may b (job_of r p) p.slice sound (marches r.selected) e
+    of : (v : Option Verdict) → attempt_verdict may b (test_of r p) p.slice ≡ v → attempt_words may b (test_of r p) p.slice ≡ b.words
+    of None e = known.stays may b (test_of r p) p.slice sound (marches r.selected) e
     of (Some v) e =
-        (known.passes may b (job_of r p) p.slice v sound (marches r.selected) e).1
-        ∙ ap (λ (policy : Policy). left_words b.words policy p.slice (job_of r p).fill) (keeps r.selected p.place.block)
+        (known.passes may b (test_of r p) p.slice v sound (marches r.selected) e).1
+        ∙ ap (λ (policy : Policy). left_words b.words policy p.slice (test_of r p).fill) (keeps r.selected p.place.block)
 
 moved : (r q : RamTst) → q.setting ≡ r.setting → Keeps r → Keeps q
 moved r q e h = subst (λ (z : Setting). HasAcceptedMarches z × KeepsAll z) (sym e) h
@@ -92,10 +92,10 @@ test_kept : IsInvariant of_test Keeps
 test_kept = record { taken = λ r p v failed h. h; row = λ r call h. moved r (of_test.table.next r call) (handlers_leave_setting r call) h }
 
 pass_enters : (service : Service) → EntersSound (ram_running of_pass service) Keeps
-pass_enters service = record { tests = pass_kept; cleared = λ r h. h; inside = λ r h. moved r _ ((cell_leaves r service r.state).1 r).0 h }
+pass_enters service = record { tests = pass_kept; cleared = λ r h. h; inside = λ r h. subst (λ (z : Setting). HasAcceptedMarches z × KeepsAll z) (sym ((cell_leaves r service r.state).1 r).0) h }
 
 test_enters : (service : Service) → EntersSound (ram_running of_test service) Keeps
-test_enters service = record { tests = test_kept; cleared = λ r h. h; inside = λ r h. moved r _ ((cell_leaves r service r.state).1 r).0 h }
+test_enters service = record { tests = test_kept; cleared = λ r h. h; inside = λ r h. subst (λ (z : Setting). HasAcceptedMarches z × KeepsAll z) (sym ((cell_leaves r service r.state).1 r).0) h }
 
 -- ---- running events
 
@@ -130,7 +130,7 @@ ram-event known rams.Full m requests fault holds =
 ram-event known (rams.Partial block) m requests fault holds =
     running-finds (with_ram m.modules) (λ b c. refl) (events_of (rams.Partial block)) Keeps (record { words = attempt-leaves known; invariant = test_kept }) (test_enters (RunPartialTest block)) m m.modules.ram requests fault holds
 
-Always : FlsTst → Type 0
+abbrev Always : FlsTst → Type 0
 Always f = Unit {0}
 
 fls-event : (call : FlsRunning) (m : Machine) (requests : List Request) → m.board.fault ≡ None
