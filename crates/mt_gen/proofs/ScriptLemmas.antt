@@ -133,9 +133,9 @@ length-hex_text (suc n) word = length-append (hex_text n (word / 16)) (digit_byt
 three_digits : (n : ℕ) → n < 512 → length (decimal n) ≤ 3
 three_digits n h = length-decimal-le 3 n (omega arith) (omega arith) (omega arith)
 
--- the canonical text of a line has at most 72 bytes
+-- the canonical text of a line has at most 34 bytes
 abbrev pub IsShort : Line → Type 0
-IsShort line = length (canonical W16 line) ≤ 72
+IsShort line = length (canonical W16 line) ≤ 34
 
 short_ram : (offset addr word : ℕ) → offset < 512 → addr < 256 → word < 65536 → IsShort (ram_tick offset addr word)
 unfolding canonical

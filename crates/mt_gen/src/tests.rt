@@ -1,5 +1,6 @@
 use super::*;
 use mt_port::Source;
+use mt_window::{Entry, Refusal, Reply, Value};
 use std::test::Fail;
 
 /// The first lines of the script with the number 0.
@@ -43,18 +44,56 @@ fn line_4_of_script_1(rt: HostRuntime) -> Result<(), Fail> {
     Ok(())
 }
 
+// The numbers of lines and bytes, and the FNV-1a hash, of the whole script.
 #[test]
-fn script_0_has_20000_lines(rt: HostRuntime) -> Result<(), Fail> {
+fn the_whole_script_0(rt: HostRuntime) -> Result<(), Fail> {
     let mut source = GenSource::new(0);
     let mut piece = [0; 4096];
-    let mut bytes = 0usize;
     let mut lines = 0usize;
+    let mut bytes = 0usize;
+    let mut hash = 0xcbf2_9ce4_8422_2325u64;
     for _ in 0..30_000 {
         let count = source.read(&mut piece)?;
         bytes = bytes.saturating_add(count);
-        lines = lines.saturating_add(piece[..count].iter().filter(|b| **b == b'\n').count());
+        for byte in &piece[..count] {
+            hash = (hash ^ u64::from(*byte)).wrapping_mul(0x100_0000_01b3);
+            lines = lines.saturating_add(usize::from(*byte == b'\n'));
+        }
     }
-    assert_eq!(rt; bytes, 444_018);
     assert_eq!(rt; lines, 20_000);
+    assert_eq!(rt; bytes, 444_018);
+    assert_eq!(rt; hash, 0x8b9a_e545_6215_5982);
     Ok(())
+}
+
+#[test]
+fn entries_are_added_up(rt: HostRuntime) {
+    let mut summary = Summary::new();
+    for entry in [
+        Entry::Served {
+            number: 1,
+            at: 192,
+            wait: 92,
+        },
+        Entry::Inner(Reply::Value(Value::Word(1))),
+        Entry::Served {
+            number: 2,
+            at: 192,
+            wait: 5,
+        },
+        Entry::Inner(Reply::Refused(Refusal::Status)),
+        Entry::Own(Reply::Ran(3072)),
+        Entry::Own(Reply::Ran(24)),
+    ] {
+        summary.add(&entry);
+    }
+    assert_eq!(rt;
+        summary,
+        Summary {
+            lines: 0,
+            ran: 3096,
+            served: 2,
+            longest: 92
+        }
+    );
 }
