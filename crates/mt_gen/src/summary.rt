@@ -40,8 +40,9 @@ impl Summary {
                 self.served += 1;
                 self.longest = self.longest.max(*wait);
             }
-            Entry::Inner(Reply::Ran(accesses)) | Entry::Own(Reply::Ran(accesses)) => self.ran +=
-                u64::from(*accesses),
+            Entry::Inner(Reply::Ran(accesses)) | Entry::Own(Reply::Ran(accesses)) => {
+                self.ran += u64::from(*accesses);
+            }
             Entry::Inner(_) | Entry::Own(_) => {}
         }
     }
