@@ -2,3 +2,4 @@ pub mod Numbers
 pub mod Script
 pub mod Source
 pub mod Summary
+pub mod Config

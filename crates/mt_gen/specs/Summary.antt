@@ -1,5 +1,5 @@
 -- What is added up over the entries of a replay.
-use Rattle.std.specs.Prelude.{ℕ, ◌+◌, List, [], ◌∷◌, map, sum_by, fold, max}
+use Rattle.std.specs.Prelude.{ℕ, ◌+◌, List, map, sum_by, fold, max}
 use Rattle.mt_window.specs.declared.log.Entry.{Entry}
 use Rattle.mt_window.specs.declared.log.Entry.TheVariants.{Served, Inner, Own}
 use Rattle.mt_window.specs.declared.reply.Reply.{Reply}

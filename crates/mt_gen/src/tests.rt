@@ -1,5 +1,6 @@
 use super::*;
-use mt_port::Source;
+use mt_conf::write_config;
+use mt_port::{MemSink, Source};
 use mt_window::{Entry, Refusal, Reply};
 use std::test::Fail;
 
@@ -87,4 +88,50 @@ fn entries_are_added_up(rt: HostRuntime) {
         (summary.ran, summary.served, summary.longest),
         (3096, 2, 92)
     );
+}
+
+const CONFIG: &str = r#"version = 1
+width = 16
+ram = 256
+flash = 64
+initial = "0000"
+
+[[set]]
+algorithm = "march"
+march = "{*(w0); u(r0,w1); u(r1,w0); d(r0,w1); d(r1,w0); *(r0)}"
+background = "0000"
+atomic = 8
+cells = 32
+
+[[set.block]]
+first = 0
+last = 99
+policy = "non-destructive"
+fill = "0000"
+
+[[set.block]]
+first = 100
+last = 199
+policy = "destructive"
+fill = "a5a5"
+
+[fls]
+atomic = 4
+cells = 8
+interval_end = 3
+
+[[fls.bgnd]]
+first = 0
+last = 31
+copy = 32
+"#;
+
+#[test]
+fn the_configuration_has_this_text(rt: HostRuntime) -> Result<(), Fail> {
+    let alloc = rt.alloc();
+    let config = job_config(alloc)?;
+    let mut sink = MemSink::new(alloc, 1024, Vec::new(alloc))?;
+    write_config(&config, &mut sink)?;
+    assert_eq!(rt; sink.bytes(), CONFIG.as_bytes());
+    Ok(())
 }

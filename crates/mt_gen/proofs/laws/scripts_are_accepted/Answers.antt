@@ -3,7 +3,6 @@ use Rattle.std.proofs.lemmas.List.Elements.{All-weaker}
 use Rattle.mt_word.specs.declared.Width.TheVariants.{W16}
 use Rattle.mt_text.specs.Accepted.{IsAccepted}
 use Rattle.mt_text.specs.Canonical.{canonical}
-use Rattle.mt_text.specs.Lines.{line_of}
 use Rattle.mt_gen.specs.Script.{job_shape}
 use Rattle.mt_gen.proofs.ScriptLemmas.{script_all, of_number, accepted_forms, accepted_first, IsShort, IsReadBack, short_forms, short_first}
 use Rattle.mt_gen.proofs.laws.scripts_are_accepted.Goals as goal
