@@ -16,7 +16,7 @@ use Rattle.mt_text.specs.Accepted.{IsAccepted, IsFor, IsRequest}
 use Rattle.mt_text.specs.Canonical.{canonical}
 use Rattle.mt_text.specs.Lines.{line_of}
 use Rattle.mt_text.specs.declared.line.Line.{Line}
-use Rattle.mt_gen.specs.Numbers.{next, form, address, word}
+use Rattle.mt_gen.specs.Numbers.{next, drawn_form, drawn_address, drawn_word}
 use Rattle.mt_gen.specs.Script.{job_shape, interrupt, ram_tick, fls_tick, write_line, read_line, copy_line, result_line, line_of_form, drawn_line, lines_behind, first_lines, script}
 
 -- ---- all lines of a script
@@ -71,7 +71,7 @@ of_form P each f addr word a w =
 
 pub of_number : (P : Line → Type 0) → OfEachForm P → (x : ℕ) → P (drawn_line x)
 unfolding drawn_line
-of_number P each x = of_form P each (form x) (address x) (word x) (omega arith) (omega arith)
+of_number P each x = of_form P each (drawn_form x) (drawn_address x) (drawn_word x) (omega arith) (omega arith)
 
 -- ---- lines are accepted
 

@@ -9,14 +9,14 @@ next x = (x * 6364136223846793005 + 1442695040888963407) % 2 ^ 64
 abbrev pub upper : ℕ → ℕ
 upper x = x / 2 ^ 33
 
--- of these, three bits for the form of a line,
-abbrev pub form : ℕ → ℕ
-form x = upper x % 8
+-- of these, the least three choose the form of a line,
+abbrev pub drawn_form : ℕ → ℕ
+drawn_form x = upper x % 8
 
--- then eight for an address,
-abbrev pub address : ℕ → ℕ
-address x = upper x / 8 % 256
+-- the next eight an address,
+abbrev pub drawn_address : ℕ → ℕ
+drawn_address x = upper x / 8 % 256
 
--- and then sixteen for a word
-abbrev pub word : ℕ → ℕ
-word x = upper x / 2048 % 65536
+-- and the next sixteen a word
+abbrev pub drawn_word : ℕ → ℕ
+drawn_word x = upper x / 2048 % 65536

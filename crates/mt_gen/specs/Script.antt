@@ -13,22 +13,23 @@ use Rattle.mt_text.specs.declared.line.Event.TheVariants.{Ram, Fls, TickRam, Tic
 use Rattle.mt_text.specs.declared.line.Line.{Line}
 use Rattle.mt_text.specs.Canonical.{canonical}
 use Rattle.mt_text.specs.Lines.{line}
-use Rattle.mt_gen.specs.Numbers.{next, form, address, word}
+use Rattle.mt_gen.specs.Numbers.{next, drawn_form, drawn_address, drawn_word}
 
+-- the job's memory
 abbrev pub job_shape : Shape
 job_shape = record { width = W16; ram = 256; flash = 64 }
 
 -- ---- the forms of lines
 
--- one ordinary request at an offset, whose handler does these operations
+-- one ordinary request at an offset, and the operations of its handler
 abbrev pub interrupt : ℕ → List HandlerOp → List Request
 interrupt offset ops = record { offset = offset; urgent = false; ops = record { items = ops } } ∷ []
 
--- a tick of RamTst; a handler reads a word, and adds to it
+-- a tick of RamTst with a request, whose handler reads a word and adds to it
 abbrev pub ram_tick : (offset addr word : ℕ) → Line
 ram_tick offset addr word = line TickRam (interrupt offset (handler.App (Read addr) ∷ handler.App (Add addr word) ∷ []))
 
--- a tick of FlsTst; a handler reads a flash word
+-- a tick of FlsTst with a request, whose handler reads a flash word
 abbrev pub fls_tick : (offset addr : ℕ) → Line
 fls_tick offset addr = line TickFls (interrupt offset (handler.App (Flash addr) ∷ []))
 
@@ -41,6 +42,7 @@ read_line addr = line (App (Read addr)) []
 abbrev pub copy_line : (src dst : ℕ) → Line
 copy_line src dst = line (App (Copy src dst)) []
 
+-- the overall result is asked for
 abbrev pub result_line : Line
 result_line = line (Ram GetTestResult) []
 
@@ -58,7 +60,7 @@ line_of_form form addr word =
 
 -- the line of a number
 unfoldable pub drawn_line : ℕ → Line
-drawn_line x = line_of_form (form x) (address x) (word x)
+drawn_line x = line_of_form (drawn_form x) (drawn_address x) (drawn_word x)
 
 -- so many lines behind that of a number
 unfoldable pub lines_behind : (count x : ℕ) → List Line

@@ -3,17 +3,17 @@
 ghost use Rattle.std.specs.Prelude.{◌≡◌, ◌<◌, ◌≤◌, ◌+◌, ◌++◌, [], codes, decimal, length};
 ghost use Rattle.mt_word.specs.declared.Width.TheVariants.{W16};
 ghost use Rattle.mt_text.specs.Canonical.{canonical};
-ghost use Rattle.mt_gen.specs.Numbers.{next, form, address, word};
+ghost use Rattle.mt_gen.specs.Numbers.{next};
 ghost use Rattle.mt_gen.specs.Script.{ram_tick, fls_tick, write_line, read_line, copy_line, result_line, line_of_form, drawn_line, first_lines, text_of};
 
 use arrayvec::ArrayVec;
 use mt_hex::{push_bytes, push_number, push_word};
 use mt_word::Width;
 
-/// The text of a line; the longest has 35 bytes.
+/// The text of a line. The longest has 35 bytes; there is room for numbers of ten digits and a word of sixteen.
 pub type Text = ArrayVec<u8, 72>;
 
-/// The number behind another.
+/// The number behind another, by Knuth's linear congruential generator.
 #[tactic(auto, unfolding(crate::specs::Numbers::next))]
 pub fn next(number: u64) -> u64
     ensures { result ≡ next number }
