@@ -1,0 +1,5 @@
+pub mod Numbers
+pub mod Script
+pub mod Source
+pub mod Summary
+pub mod Config

@@ -1,0 +1,16 @@
+//! The generated job: its configuration, and for each number a script of 20,000 lines, given byte by byte; and what is
+//! added up when it is replayed.
+#![tactic(auto)]
+
+mod config;
+mod laws;
+mod line;
+mod source;
+mod summary;
+#[cfg(test)]
+mod tests;
+
+pub use config::job_config;
+pub use laws::{lines_go_on, scripts_are_accepted, scripts_have_20000_lines, summaries_are_sums};
+pub use source::GenSource;
+pub use summary::Summary;
