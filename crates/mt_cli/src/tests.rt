@@ -1,6 +1,6 @@
 use mt_board::SimBoard;
 use mt_fault::{Fault, Spot};
-use mt_port::{Failed, MemSink, MemSource, NullSink, Source};
+use mt_port::{Failed, MemSink, MemSource, NullSink, Source, Touch};
 use mt_replay::{Status, replay};
 use std::alloc::Global;
 use std::test::Fail;
@@ -64,69 +64,100 @@ fn a_defect_is_found(rt: HostRuntime) -> Result<(), Fail> {
     Ok(())
 }
 
+// A job of one word, of which the application uses another.
+const WORD: &[u8] =
+    b"version = 1\nwidth = 8\nram = 2\n[[set]]\nalgorithm = \"checkerboard\"\natomic = 1\ncells = 1\n[[set.block]]\nfirst = 1\nlast = 1\npolicy = \"non-destructive\"\n=====\nram Init\nram Allow\napp w 0 5a\ntick ram\n";
+
+// The tape of a board tells the accesses of a replay's sequences, and none of the application's.
+#[test]
+fn a_tape_tells_the_sequences(rt: HostRuntime) -> Result<(), Fail> {
+    let alloc = rt.alloc();
+    let words = vec![in alloc; "run".to_string(alloc)?]?;
+    let mut source = MemSource::new(WORD.to_vec(alloc)?, 64, Vec::new(alloc));
+    let mut sink = MemSink::new(alloc, 100, Vec::new(alloc))
+        .ok()
+        .ok_or("memory")?;
+    let mut board = SimBoard::new();
+    let status = replay(alloc, &words, &mut source, &mut sink, &mut board);
+    assert_eq!(rt; status, Status::Done);
+    let told = [
+        Touch::Read { addr: 1 },
+        Touch::Write { addr: 1, word: 0 },
+        Touch::Read { addr: 1 },
+        Touch::Write {
+            addr: 1,
+            word: 0xff,
+        },
+        Touch::Read { addr: 1 },
+        Touch::Write { addr: 1, word: 0 },
+    ];
+    assert_eq!(rt; board.tape().ok_or("told")?, told.as_slice());
+    Ok(())
+}
+
 // The configuration of the jobs below, with its separator.
-const CONFIGURATION: &str = "version = 1\nwidth = 8\nram = 10\n[[set]]\nalgorithm = \"march\"\natomic = 4\ncells = 8\n[[set.block]]\nfirst = 0\nlast = 9\npolicy = \"non-destructive\"\n=====\n";
+const CONFIGURATION: &str =
+    "version = 1\nwidth = 8\nram = 10\n[[set]]\nalgorithm = \"march\"\natomic = 4\ncells = 8\n[[set.block]]\nfirst = 0\nlast = 9\npolicy = \"non-destructive\"\n=====\n";
 
 // A tick with two requests, in a module that was not initialised.
 const LINE: &str = "tick  ram @5 [ w 3 C4;r 3 ]@7[]";
 
 const TRACE: &str = "1 irq 1 at 0 wait 0\n1 - ok\n1 - c4\n1 irq 2 at 0 wait 0\n1 refused 1\n";
 
-// What the line cut behind so many of its bytes gives: the length and the text, whose lines are parted by `/`.
-const CUTS: &str = "0|end ok 0
-1|bad line 1 1 1
-3|bad line 1 1 1
-4|bad line 1 1 5
-5|bad line 1 1 6
-6|bad line 1 1 7
-7|bad line 1 1 7
-9|1 refused 1/end ok 1
-10|1 refused 1/end ok 1
-11|bad line 1 2 11
-12|1 irq 1 at 0 wait 0/1 refused 1/end ok 1
-13|1 irq 1 at 0 wait 0/1 refused 1/end ok 1
-14|bad line 1 1 15
-15|bad line 1 1 16
-16|bad line 1 1 17
-17|bad line 1 1 18
-18|bad line 1 1 19
-20|bad line 1 1 21
-21|bad line 1 1 22
-22|bad line 1 1 23
-23|bad line 1 1 24
-25|bad line 1 1 26
-26|bad line 1 1 27
-27|1 irq 1 at 0 wait 0/1 - ok/1 - c4/1 refused 1/end ok 1
-28|bad line 1 2 28
-29|1 irq 1 at 0 wait 0/1 - ok/1 - c4/1 irq 2 at 0 wait 0/1 refused 1/end ok 1
-30|bad line 1 1 31
-31|1 irq 1 at 0 wait 0/1 - ok/1 - c4/1 irq 2 at 0 wait 0/1 refused 1/end ok 1";
+// What the line cut behind so many of its bytes gives.
+const CUTS: [(usize, &str); 28] = [
+    (0, "end ok 0\n"),
+    (1, "bad line 1 1 1\n"),
+    (3, "bad line 1 1 1\n"),
+    (4, "bad line 1 1 5\n"),
+    (5, "bad line 1 1 6\n"),
+    (6, "bad line 1 1 7\n"),
+    (7, "bad line 1 1 7\n"),
+    (9, "1 refused 1\nend ok 1\n"),
+    (10, "1 refused 1\nend ok 1\n"),
+    (11, "bad line 1 2 11\n"),
+    (12, "1 irq 1 at 0 wait 0\n1 refused 1\nend ok 1\n"),
+    (13, "1 irq 1 at 0 wait 0\n1 refused 1\nend ok 1\n"),
+    (14, "bad line 1 1 15\n"),
+    (15, "bad line 1 1 16\n"),
+    (16, "bad line 1 1 17\n"),
+    (17, "bad line 1 1 18\n"),
+    (18, "bad line 1 1 19\n"),
+    (20, "bad line 1 1 21\n"),
+    (21, "bad line 1 1 22\n"),
+    (22, "bad line 1 1 23\n"),
+    (23, "bad line 1 1 24\n"),
+    (25, "bad line 1 1 26\n"),
+    (26, "bad line 1 1 27\n"),
+    (
+        27,
+        "1 irq 1 at 0 wait 0\n1 - ok\n1 - c4\n1 refused 1\nend ok 1\n",
+    ),
+    (28, "bad line 1 2 28\n"),
+    (
+        29,
+        "1 irq 1 at 0 wait 0\n1 - ok\n1 - c4\n1 irq 2 at 0 wait 0\n1 refused 1\nend ok 1\n",
+    ),
+    (30, "bad line 1 1 31\n"),
+    (
+        31,
+        "1 irq 1 at 0 wait 0\n1 - ok\n1 - c4\n1 irq 2 at 0 wait 0\n1 refused 1\nend ok 1\n",
+    ),
+];
 
 /// What a replay of some bytes came to, where source and sink fail at some places, and the sink has so much room.
 fn replayed(
     alloc: Global,
     bytes: Vec<u8>,
-    piece: usize,
     read_fails: Vec<u64>,
     write_fails: Vec<u64>,
     room: usize,
-) -> Result<(Status, Vec<u8>), Fail>
-    requires { 0 < piece }
-{
+) -> Result<(Status, Vec<u8>), Fail> {
     let words = vec![in alloc; "run".to_string(alloc)?]?;
-    let mut source = MemSource::new(bytes, piece, read_fails);
-    let mut sink = MemSink::new(alloc, room, write_fails)
-        .ok()
-        .ok_or("memory")?;
+    let mut source = MemSource::new(bytes, 7, read_fails);
+    let mut sink = MemSink::new(alloc, room, write_fails).ok().ok_or("memory")?;
     let status = replay(alloc, &words, &mut source, &mut sink, &mut SimBoard::new());
     Ok((status, sink.bytes().to_vec(alloc)?))
-}
-
-// The configuration, and some lines.
-fn job(alloc: Global, lines: &str) -> Result<Vec<u8>, Fail> {
-    let mut bytes = CONFIGURATION.as_bytes().to_vec(alloc)?;
-    bytes.extend_from_slice(lines.as_bytes())?;
-    Ok(bytes)
 }
 
 // Wherever the source fails, the text is that of the whole lines before.
@@ -137,9 +168,19 @@ fn a_source_that_fails_anywhere(rt: HostRuntime) -> Result<(), Fail> {
     let answered = format!(in alloc; "{TRACE}read fault\n")?;
     for place in 0..=whole.len() {
         let fails = vec![in alloc; place as u64]?;
-        let (status, text) = replayed(alloc, whole.as_bytes().to_vec(alloc)?, 7, fails, Vec::new(alloc), 200)?;
+        let (status, text) = replayed(
+            alloc,
+            whole.as_bytes().to_vec(alloc)?,
+            fails,
+            Vec::new(alloc),
+            200,
+        )?;
         assert_eq!(rt; status, Status::ReadFault);
-        let want = if place == whole.len() { answered.as_str() } else { "read fault\n" };
+        let want = if place == whole.len() {
+            answered.as_str()
+        } else {
+            "read fault\n"
+        };
         assert_eq!(rt; text.as_slice(), want.as_bytes());
     }
     Ok(())
@@ -153,10 +194,22 @@ fn a_sink_that_fails_anywhere(rt: HostRuntime) -> Result<(), Fail> {
     let text = format!(in alloc; "{TRACE}end ok 1\n")?;
     for place in 0..text.len() {
         let fails = vec![in alloc; place as u64]?;
-        let (status, held) = replayed(alloc, whole.as_bytes().to_vec(alloc)?, 64, Vec::new(alloc), fails, 200)?;
+        let (status, held) = replayed(
+            alloc,
+            whole.as_bytes().to_vec(alloc)?,
+            Vec::new(alloc),
+            fails,
+            200,
+        )?;
         assert_eq!(rt; status, Status::WriteFault);
         assert_eq!(rt; held.as_slice(), &text.as_bytes()[..place]);
-        let (status, held) = replayed(alloc, whole.as_bytes().to_vec(alloc)?, 64, Vec::new(alloc), Vec::new(alloc), place)?;
+        let (status, held) = replayed(
+            alloc,
+            whole.as_bytes().to_vec(alloc)?,
+            Vec::new(alloc),
+            Vec::new(alloc),
+            place,
+        )?;
         assert_eq!(rt; status, Status::WriteFault);
         assert_eq!(rt; held.as_slice(), &text.as_bytes()[..place]);
     }
@@ -168,7 +221,7 @@ fn a_sink_that_fails_anywhere(rt: HostRuntime) -> Result<(), Fail> {
 fn both_streams_fail(rt: HostRuntime) -> Result<(), Fail> {
     let alloc = rt.alloc();
     let fails = vec![in alloc; CUT.len() as u64]?;
-    let (status, held) = replayed(alloc, CUT.to_vec(alloc)?, 64, fails, Vec::new(alloc), 5)?;
+    let (status, held) = replayed(alloc, CUT.to_vec(alloc)?, fails, Vec::new(alloc), 5)?;
     assert_eq!(rt; status, Status::WriteFault);
     assert_eq!(rt; held.as_slice(), b"1 ok\n".as_slice());
     Ok(())
@@ -178,23 +231,13 @@ fn both_streams_fail(rt: HostRuntime) -> Result<(), Fail> {
 #[test]
 fn a_job_that_is_cut(rt: HostRuntime) -> Result<(), Fail> {
     let alloc = rt.alloc();
-    let mut count = 0u32;
-    for row in CUTS.lines() {
-        let Some((len, want)) = row.split_once('|') else {
-            return Err("a row".into());
-        };
-        let len = len.parse::<usize>().ok().ok_or("a length")?;
+    for (len, want) in CUTS {
         let front = LINE.as_bytes().get(..len).ok_or("a long length")?;
-        let mut bytes = job(alloc, "")?;
+        let mut bytes = CONFIGURATION.as_bytes().to_vec(alloc)?;
         bytes.extend_from_slice(front)?;
-        let (_, text) = replayed(alloc, bytes, 64, Vec::new(alloc), Vec::new(alloc), 200)?;
-        let mut lines = text.as_slice().split(|b| *b == b'\n');
-        for line in want.split('/') {
-            assert_eq!(rt; lines.next(), Some(line.as_bytes()));
-        }
-        count += 1;
+        let (_, text) = replayed(alloc, bytes, Vec::new(alloc), Vec::new(alloc), 200)?;
+        assert_eq!(rt; text.as_slice(), want.as_bytes());
     }
-    assert_eq!(rt; count, 28);
     Ok(())
 }
 
@@ -230,7 +273,13 @@ impl Source for Counted {
 fn a_source_is_not_read_behind_its_end(rt: HostRuntime) -> Result<(), Fail> {
     let alloc = rt.alloc();
     let words = vec![in alloc; "run".to_string(alloc)?]?;
-    for bytes in [JOB, CUT, CONFIGURATION.as_bytes(), &CONFIGURATION.as_bytes()[..CONFIGURATION.len() - 1], b"".as_slice()] {
+    for bytes in [
+        JOB,
+        CUT,
+        CONFIGURATION.as_bytes(),
+        &CONFIGURATION.as_bytes()[..CONFIGURATION.len() - 1],
+        b"".as_slice(),
+    ] {
         let mut source = Counted { bytes, calls: 0 };
         let mut sink = NullSink::new();
         let _ = replay(alloc, &words, &mut source, &mut sink, &mut SimBoard::new());

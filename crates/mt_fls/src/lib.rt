@@ -12,7 +12,8 @@ mod state;
 mod taken;
 
 pub use laws::{
-    handlers_leave_results, services_leave_setting, ticks_end_by_the_mark, running_calls_keep_the_board, waits_of_running_calls,
+    handlers_leave_results, running_calls_keep_the_board, services_leave_setting,
+    ticks_end_by_the_mark, waits_of_running_calls,
 };
 pub use state::{Back, Fls, State};
 

@@ -146,10 +146,10 @@ operated-finds t z all (App op) more s h = record {
   rest = moved all h.done (App op) more h.rest;
   entered = counted h.done (App op) s.log (given (op_answer s.board op)) h.entered;
   answers =
-    replied h.done (App op) s.log (given (op_answer s.board op)) h.entered
-    ∙ ap (λ (l : List Reply). l ++ given (op_answer s.board op) ∷ []) h.answers
-    ∙ ap (λ (a : Answer). answers_at z h.done ++ given a ∷ []) (answer-found z s.board op h.fault h.shape h.flash ∙ ap (λ (w : List ℕ). op_answer (plain z.shape w z.flash) op) h.words)
-    ∙ sym (answers-more z h.done op);
+      replied h.done (App op) s.log (given (op_answer s.board op)) h.entered
+      ∙ ap (λ (l : List Reply). l ++ given (op_answer s.board op) ∷ []) h.answers
+      ∙ ap (λ (a : Answer). answers_at z h.done ++ given a ∷ []) (answer-found z s.board op h.fault h.shape h.flash ∙ ap (λ (w : List ℕ). op_answer (plain z.shape w z.flash) op) h.words)
+      ∙ sym (answers-more z h.done op);
   words = words-found z s.board op h.fault h.shape h.flash ∙ ap (λ (w : List ℕ). op_words (plain z.shape w z.flash) op) h.words ∙ sym (words-more z h.done op);
   fault = h.fault;
   shape = h.shape;
@@ -160,8 +160,8 @@ operated-finds t z all (Call call) more s h = record {
   rest = moved all h.done (Call call) more h.rest;
   entered = counted h.done (Call call) s.log (t.reply s.callee call) h.entered;
   answers =
-    replied h.done (Call call) s.log (t.reply s.callee call) h.entered ∙ append-nil (replies_in h.done (inner_replies s.log)) ∙ h.answers
-    ∙ ap (λ (l : List AppOp). map given (answers_of z.shape z.words z.flash l)) (sym (same-operations h.done call));
+      replied h.done (Call call) s.log (t.reply s.callee call) h.entered ∙ append-nil (replies_in h.done (inner_replies s.log)) ∙ h.answers
+      ∙ ap (λ (l : List AppOp). map given (answers_of z.shape z.words z.flash l)) (sym (same-operations h.done call));
   words = h.words ∙ ap (λ (l : List AppOp). words_after z.shape z.words z.flash l) (sym (same-operations h.done call));
   fault = h.fault;
   shape = h.shape;
@@ -245,16 +245,22 @@ attempt-found : {C X V : Type 0} (t : Tests C X V) (I : C → Type 0) → Leaves
 attempt-found {C} t I k z all may x g h =
     let f = h.goes.waits.finds in
     let mid = scene_behind t may g x in
-    let behind : Goes z all mid = record { left = h.goes.left; waits = record { left = h.goes.waits.left; finds = record {
-      done = f.done;
-      rest = f.rest;
-      entered = f.entered;
-      answers = f.answers;
-      words = k.words may g.scene.callee x g.scene.board h.holds f.fault ∙ f.words;
-      fault = f.fault;
-      shape = f.shape;
-      flash = f.flash;
-    } } } in
+    let behind : Goes z all mid = record {
+      left = h.goes.left;
+      waits = record {
+        left = h.goes.waits.left;
+        finds = record {
+          done = f.done;
+          rest = f.rest;
+          entered = f.entered;
+          answers = f.answers;
+          words = k.words may g.scene.callee x g.scene.board h.holds f.fault ∙ f.words;
+          fault = f.fault;
+          shape = f.shape;
+          flash = f.flash;
+        };
+      };
+    } in
     record { goes = serve-goes t.table z all mid behind; holds = serve-holds t I k.invariant mid (taken-holds t I k.invariant g.scene.callee x g.failed (next_attempt t may g x).verdict h.holds) }
 
 -- An event whose attempts leave the words, from a scene with an empty log: its handlers find a plain memory.
@@ -265,16 +271,22 @@ event-found {C} r I k enters s fresh fault holds =
     let all = handled s.board.left in
     let first : Scene C = scene s.board (r.cleared s.callee) s.log in
     let none : inner_replies s.log ≡ [] = ap (λ (l : List Entry). inner_replies l) fresh in
-    let start : Goes z all first = record { left = s.board.left; waits = record { left = refl; finds = record {
-      done = [];
-      rest = refl;
-      entered = ap (λ (l : List Reply). length l) none;
-      answers = refl;
-      words = refl;
-      fault = fault;
-      shape = refl;
-      flash = refl;
-    } } } in
+    let start : Goes z all first = record {
+      left = s.board.left;
+      waits = record {
+        left = refl;
+        finds = record {
+          done = [];
+          rest = refl;
+          entered = ap (λ (l : List Reply). length l) none;
+          answers = refl;
+          words = refl;
+          fault = fault;
+          shape = refl;
+          flash = refl;
+        };
+      };
+    } in
     let o = opened r s in
     let opens = serve-goes r.tests.table z all first start in
     let inside : Found I z all (entered r o).scene = record { goes = with_callee o (r.inside o.callee) opens; holds = enters.inside o.callee (serve-holds r.tests I enters.tests first (enters.cleared s.callee holds)) } in
@@ -284,13 +296,19 @@ event-found {C} r I k enters s fresh fault holds =
     subst (λ (l : List Request). Finds z all [] (left_served r.tests.table l y)) (sym back.waits.left) (left_served-finds r.tests.table z all back.left y back.waits)
   where
     with_callee : {z : Start} {all : List HandlerOp} (s : Scene C) (c : C) → Goes z all s → Goes z all (scene s.board c s.log)
-    with_callee s c h = record { left = h.left; waits = record { left = h.waits.left; finds = record {
-      done = h.waits.finds.done;
-      rest = h.waits.finds.rest;
-      entered = h.waits.finds.entered;
-      answers = h.waits.finds.answers;
-      words = h.waits.finds.words;
-      fault = h.waits.finds.fault;
-      shape = h.waits.finds.shape;
-      flash = h.waits.finds.flash;
-    } } }
+    with_callee s c h = record {
+      left = h.left;
+      waits = record {
+        left = h.waits.left;
+        finds = record {
+          done = h.waits.finds.done;
+          rest = h.waits.finds.rest;
+          entered = h.waits.finds.entered;
+          answers = h.waits.finds.answers;
+          words = h.waits.finds.words;
+          fault = h.waits.finds.fault;
+          shape = h.waits.finds.shape;
+          flash = h.waits.finds.flash;
+        };
+      };
+    }

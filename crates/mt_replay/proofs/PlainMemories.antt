@@ -114,11 +114,11 @@ running-finds {C} with over call I leaves enters m c requests fault holds =
     let log : inner_replies (after.log ++ Own (event_of call s).reply ∷ []) ≡ inner_replies after.log = inner-append after.log (Own (event_of call s).reply ∷ []) ∙ append-nil (inner_replies after.log) in
     record {
       answers =
-        ap (λ (l : List Reply). replies_in (handled requests) l) log
-        ∙ subst (λ (d : List HandlerOp). replies_in d (inner_replies after.log) ≡ map given (answers_of m.board.shape m.board.words m.board.flash (operations_in d))) whole finds.answers;
+          ap (λ (l : List Reply). replies_in (handled requests) l) log
+          ∙ subst (λ (d : List HandlerOp). replies_in d (inner_replies after.log) ≡ map given (answers_of m.board.shape m.board.words m.board.flash (operations_in d))) whole finds.answers;
       words =
-        over (record (after.board) { count = 0 }) after.callee
-        ∙ subst (λ (d : List HandlerOp). after.board.words ≡ words_after m.board.shape m.board.words m.board.flash (operations_in d)) whole finds.words;
+          over (record (after.board) { count = 0 }) after.callee
+          ∙ subst (λ (d : List HandlerOp). after.board.words ≡ words_after m.board.shape m.board.words m.board.flash (operations_in d)) whole finds.words;
     }
 
 ram-event : Attempts → (call : Running) (m : Machine) (requests : List Request) → m.board.fault ≡ None → Keeps m.modules.ram

@@ -13,8 +13,8 @@ use crate::text::Text;
 use arrayvec::ArrayVec;
 use mt_blocks::{List, ParamSet};
 use mt_cut::{Above, Run, first_above, largest_atomic, pass_start, run_from};
-use mt_port::{Failed, Sink, put};
 use mt_hex::{push_bytes, push_number};
+use mt_port::{Failed, Sink, put};
 use std::alloc::{AllocError, Global};
 
 // The line of a tick.

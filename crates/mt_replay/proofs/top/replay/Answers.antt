@@ -61,7 +61,7 @@ returns-in-Some-clause-transparent g c =
     let ram = c.running_calls_keep_the_board.ensures in
     let fls = c.running_calls_keep_the_board-2.ensures in
     leaves_no_trace (leave_no_trace traces.tick traces.full traces.partial settings.tick settings.full settings.partial c.services_leave_setting.ensures
-        (boards_stay ram.tick ram.full ram.partial fls.tick fls.foreground))
+    (boards_stay ram.tick ram.full ram.partial fls.tick fls.foreground))
     (record { stays = c.attempts_on_sound_memory.ensures.stays; passes = c.attempts_on_sound_memory.ensures.passes }) c.accepted_is_taken.ensures _ (g.B.Port.state c.args.board.now).defect
 
 pub returns-in-None-clause-transparent : goal.returns-in-None-clause-transparent
@@ -71,5 +71,5 @@ returns-in-None-clause-transparent g c =
     let ram = c.running_calls_keep_the_board.ensures in
     let fls = c.running_calls_keep_the_board-2.ensures in
     leaves_no_trace (leave_no_trace traces.tick traces.full traces.partial settings.tick settings.full settings.partial c.services_leave_setting.ensures
-        (boards_stay ram.tick ram.full ram.partial fls.tick fls.foreground))
+    (boards_stay ram.tick ram.full ram.partial fls.tick fls.foreground))
     (record { stays = c.attempts_on_sound_memory.ensures.stays; passes = c.attempts_on_sound_memory.ensures.passes }) c.accepted_is_taken.ensures _ (g.B.Port.state c.args.board.now).defect
