@@ -74,8 +74,10 @@ fn largest_text(words: Option<u32>) -> Text
 fn write_ticks<K: Sink>(sink: &mut K, set: &ParamSet, budget: u32) -> Result<(), Failed>
     requires set { IsOfAccepted set.now }
     requires low { All (λ hold. hold ≤ budget) (pass_holds set.now) }
-    ensures ok { OnOk result (Appends (K.held sink.old) (K.held sink.new) (ticks_text (longest_runs budget (pass_holds set.now)) (pass_holds set.now))) }
-    ensures err { OnErr result (AppendsFront (K.held sink.old) (K.held sink.new) (ticks_text (longest_runs budget (pass_holds set.now)) (pass_holds set.now))) }
+    ensures ok { OnOk result (Appends (K.held sink.old) (K.held sink.new)
+        (ticks_text (longest_runs budget (pass_holds set.now)) (pass_holds set.now))) }
+    ensures err { OnErr result (AppendsFront (K.held sink.old) (K.held sink.new)
+        (ticks_text (longest_runs budget (pass_holds set.now)) (pass_holds set.now))) }
     ensures cause { HasCause (K.faults sink.old) (K.faults sink.new) result }
 {
     let mut ticks = 0;
@@ -97,8 +99,10 @@ fn write_ticks<K: Sink>(sink: &mut K, set: &ParamSet, budget: u32) -> Result<(),
 // Writes the first slice that alone is above the budget, or where there is none the ticks.
 fn write_pass<K: Sink>(sink: &mut K, set: &ParamSet, budget: u32) -> Result<(), Failed>
     requires { IsOfAccepted set.now }
-    ensures ok { OnOk result (Appends (K.held sink.old) (K.held sink.new) (pass_text budget (pass_holds set.now) (first_above budget (pass_holds set.now)))) }
-    ensures err { OnErr result (AppendsFront (K.held sink.old) (K.held sink.new) (pass_text budget (pass_holds set.now) (first_above budget (pass_holds set.now)))) }
+    ensures ok { OnOk result (Appends (K.held sink.old) (K.held sink.new)
+        (pass_text budget (pass_holds set.now) (first_above budget (pass_holds set.now)))) }
+    ensures err { OnErr result (AppendsFront (K.held sink.old) (K.held sink.new)
+        (pass_text budget (pass_holds set.now) (first_above budget (pass_holds set.now)))) }
     ensures cause { HasCause (K.faults sink.old) (K.faults sink.new) result }
 {
     match first_above(set, budget) {

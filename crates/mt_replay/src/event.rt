@@ -72,8 +72,10 @@ fn make<B: Bench>(ram: &mut Ram, board: &mut B, call: Running, log: &mut EventLo
     requires ready { IsReadyToServe RamTst (B.state board.old) log.old }
     requires shape { (B.state board.old).shape ≡ ram.old.setting.shape }
     requires start { (B.state board.old).count ≡ 0 }
-    ensures event { record { after = scene (B.state board.new) ram.new log.new; reply = result } ≡ event_of (events_of call) (scene (B.state board.old) ram.old log.old) }
-    ensures tape { Logs (B.tape board.old) (B.tape board.new) (event_touches (events_of call) (scene (B.state board.old) ram.old log.old)) }
+    ensures event { record { after = scene (B.state board.new) ram.new log.new; reply = result } ≡ event_of
+        (events_of call) (scene (B.state board.old) ram.old log.old) }
+    ensures tape { Logs (B.tape board.old) (B.tape board.new)
+        (event_touches (events_of call) (scene (B.state board.old) ram.old log.old)) }
     ensures setting { ram.new.setting ≡ ram.old.setting }
     ensures shape { (B.state board.new).shape ≡ (B.state board.old).shape }
     ensures none { (B.state board.new).left ≡ [] }
@@ -91,8 +93,10 @@ fn make_fls<B: Bench>(fls: &mut Fls, board: &mut B, call: FlsRunning, log: &mut 
     requires ready { IsReadyToServe FlsTst (B.state board.old) log.old }
     requires shape { (B.state board.old).shape ≡ fls.old.setting.shape }
     requires start { (B.state board.old).count ≡ 0 }
-    ensures event { record { after = scene (B.state board.new) fls.new log.new; reply = result } ≡ event_of (fls_events_of call) (scene (B.state board.old) fls.old log.old) }
-    ensures tape { Logs (B.tape board.old) (B.tape board.new) (event_touches (fls_events_of call) (scene (B.state board.old) fls.old log.old)) }
+    ensures event { record { after = scene (B.state board.new) fls.new log.new; reply = result } ≡ event_of
+        (fls_events_of call) (scene (B.state board.old) fls.old log.old) }
+    ensures tape { Logs (B.tape board.old) (B.tape board.new)
+        (event_touches (fls_events_of call) (scene (B.state board.old) fls.old log.old)) }
     ensures setting { fls.new.setting ≡ fls.old.setting }
     ensures shape { (B.state board.new).shape ≡ (B.state board.old).shape }
     ensures none { (B.state board.new).left ≡ [] }
@@ -115,7 +119,8 @@ fn run<B: Bench>(
     requires ready { IsReady (B.state board.old).shape (machine (B.state board.old) modules.old) }
     requires empty { log.old ≡ [] }
     requires requests { AreReady RamTst (B.state board.old).shape line.old.requests.items }
-    ensures does { Does (running_ram call (machine (B.state board.old) modules.old) line.old.requests.items) (machine (B.state board.new) modules.new) result log.new (B.tape board.old) (B.tape board.new) }
+    ensures does { Does (running_ram call (machine (B.state board.old) modules.old) line.old.requests.items)
+        (machine (B.state board.new) modules.new) result log.new (B.tape board.old) (B.tape board.new) }
     ensures ready { IsReady (B.state board.old).shape (machine (B.state board.new) modules.new) }
 {
     board.begin_event(take_requests(line));
@@ -135,7 +140,8 @@ fn run_fls<B: Bench>(
     requires ready { IsReady (B.state board.old).shape (machine (B.state board.old) modules.old) }
     requires empty { log.old ≡ [] }
     requires requests { AreReady FlsTst (B.state board.old).shape line.old.requests.items }
-    ensures does { Does (running_fls call (machine (B.state board.old) modules.old) line.old.requests.items) (machine (B.state board.new) modules.new) result log.new (B.tape board.old) (B.tape board.new) }
+    ensures does { Does (running_fls call (machine (B.state board.old) modules.old) line.old.requests.items)
+        (machine (B.state board.new) modules.new) result log.new (B.tape board.old) (B.tape board.new) }
     ensures ready { IsReady (B.state board.old).shape (machine (B.state board.new) modules.new) }
 {
     board.begin_event(take_requests(line));
@@ -227,7 +233,8 @@ fn call_ram<B: Bench>(
     requires empty { log.old ≡ [] }
     requires sound { AreSoundRequests (B.state board.old).shape line.old.requests.items }
     requires callees { AreFor (running_module (Event.Ram call)) line.old.requests.items }
-    ensures does { Does (by_ram (machine (B.state board.old) modules.old) call line.old.requests.items) (machine (B.state board.new) modules.new) result log.new (B.tape board.old) (B.tape board.new) }
+    ensures does { Does (by_ram (machine (B.state board.old) modules.old) call line.old.requests.items)
+        (machine (B.state board.new) modules.new) result log.new (B.tape board.old) (B.tape board.new) }
     ensures ready { IsReady (B.state board.old).shape (machine (B.state board.new) modules.new) }
 {
     match running_of(call) {
@@ -248,7 +255,8 @@ fn call_fls<B: Bench>(
     requires empty { log.old ≡ [] }
     requires sound { AreSoundRequests (B.state board.old).shape line.old.requests.items }
     requires callees { AreFor (running_module (Event.Fls call)) line.old.requests.items }
-    ensures does { Does (by_fls (machine (B.state board.old) modules.old) call line.old.requests.items) (machine (B.state board.new) modules.new) result log.new (B.tape board.old) (B.tape board.new) }
+    ensures does { Does (by_fls (machine (B.state board.old) modules.old) call line.old.requests.items)
+        (machine (B.state board.new) modules.new) result log.new (B.tape board.old) (B.tape board.new) }
     ensures ready { IsReady (B.state board.old).shape (machine (B.state board.new) modules.new) }
 {
     match fls_running_of(call) {
@@ -269,7 +277,8 @@ pub fn perform<B: Bench>(
     requires ready { IsReady (B.state board.old).shape (machine (B.state board.old) modules.old) }
     requires line { IsAcceptedLine (B.state board.old).shape line.old }
     requires empty { log.old ≡ [] }
-    ensures gives { AnswerGives result (machine (B.state board.old) modules.old) (machine (B.state board.new) modules.new) line.old log.new (B.tape board.old) (B.tape board.new) }
+    ensures gives { AnswerGives result (machine (B.state board.old) modules.old)
+        (machine (B.state board.new) modules.new) line.old log.new (B.tape board.old) (B.tape board.new) }
     ensures ready { IsReady (B.state board.old).shape (machine (B.state board.new) modules.new) }
 {
     match line.event {

@@ -75,8 +75,10 @@ pub fn read_head<S: Source>(
 ) -> Result<Head, Failed>
     requires empty { kept.old.items ≡ [] }
     requires room { HEAD_ROOM ≤ vec_capacity kept.old }
-    ensures ok { IfOk result (λ head. WhereTold (prepend_known input.old (S.left source.old)) (prepend_known input.new (S.left source.new)) (HeadGives head kept.new.items)) }
-    ensures err { OnErr result (WhereTold (prepend_known input.old (S.left source.old)) (prepend_known input.new (S.left source.new)) HeadBreaks) }
+    ensures ok { IfOk result (λ head. WhereTold (prepend_known input.old (S.left source.old))
+        (prepend_known input.new (S.left source.new)) (HeadGives head kept.new.items)) }
+    ensures err { OnErr result (WhereTold (prepend_known input.old (S.left source.old))
+        (prepend_known input.new (S.left source.new)) HeadBreaks) }
     ensures none { OnErr result (input.new ≡ []) }
     ensures cause { HasCause (S.faults source.old) (S.faults source.new) result }
 {

@@ -67,10 +67,12 @@ impl Input {
 
     /// Reads bytes from the source where none is held. Answers whether one is held then.
     pub fn fill<S: Source>(&mut self, source: &mut S) -> Result<bool, Failed>
-        ensures ok { IfOk result (λ some. WhereTold (prepend_known self.old (S.left source.old)) (prepend_known self.new (S.left source.new))
+        ensures ok { IfOk result (λ some. WhereTold (prepend_known self.old (S.left source.old))
+            (prepend_known self.new (S.left source.new))
             (λ before after. (before ≡ after) × (some ≡ false → after ≡ []))) }
         ensures some { IfOk result (λ some. some ≡ true → 0 < length self.new) }
-        ensures err { OnErr result (WhereTold (prepend_known self.old (S.left source.old)) (prepend_known self.new (S.left source.new)) (λ before after. before ≡ after)) }
+        ensures err { OnErr result (WhereTold (prepend_known self.old (S.left source.old))
+            (prepend_known self.new (S.left source.new)) (λ before after. before ≡ after)) }
         ensures none { OnErr result (self.new ≡ []) }
         ensures cause { HasCause (S.faults source.old) (S.faults source.new) result }
     {
@@ -133,9 +135,11 @@ impl Input {
         text: &mut LineText,
     ) -> Result<Line, Failed>
         requires { text.old.items ≡ [] }
-        ensures ok { IfOk result (λ line. WhereTold (prepend_known self.old (S.left source.old)) (prepend_known self.new (S.left source.new))
+        ensures ok { IfOk result (λ line. WhereTold (prepend_known self.old (S.left source.old))
+            (prepend_known self.new (S.left source.new))
             (TakesLine line text.new.items)) }
-        ensures err { OnErr result (WhereTold (prepend_known self.old (S.left source.old)) (prepend_known self.new (S.left source.new)) (BreaksOff text.new.items)) }
+        ensures err { OnErr result (WhereTold (prepend_known self.old (S.left source.old))
+            (prepend_known self.new (S.left source.new)) (BreaksOff text.new.items)) }
         ensures none { OnErr result (self.new ≡ []) }
         ensures cause { HasCause (S.faults source.old) (S.faults source.new) result }
     {

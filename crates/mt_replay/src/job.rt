@@ -65,7 +65,8 @@ fn found_in(alloc: Global, kept: &[u8], follows: Follows) -> Found
 
 // The refusal of an input without a separator.
 fn whole_refused(bytes: &[u8]) -> Refused
-    ensures { (form : _) (defect : Option MemoryFault) → by_job form Finished defect (Whole bytes.now) ≡ bad_config result }
+    ensures { (form : _) (defect : Option MemoryFault) → by_job form Finished defect (Whole bytes.now)
+        ≡ bad_config result }
 {
     if bytes.len() > 65_536 {
         Refused::Rule(18)
@@ -83,9 +84,11 @@ fn find<S: Source>(
 ) -> Result<Found, Failed>
     requires empty { kept.old.items ≡ [] }
     requires room { HEAD_ROOM ≤ vec_capacity kept.old }
-    ensures ok { IfOk result (λ found. WhereTold (prepend_known input.old (S.left source.old)) (prepend_known input.new (S.left source.new)) (FoundGives found)) }
+    ensures ok { IfOk result (λ found. WhereTold (prepend_known input.old (S.left source.old))
+        (prepend_known input.new (S.left source.new)) (FoundGives found)) }
     ensures accepted { IfOk result IsAcceptedFound }
-    ensures err { OnErr result (WhereTold (prepend_known input.old (S.left source.old)) (prepend_known input.new (S.left source.new)) HeadFails) }
+    ensures err { OnErr result (WhereTold (prepend_known input.old (S.left source.old))
+        (prepend_known input.new (S.left source.new)) HeadFails) }
     ensures none { OnErr result (input.new ≡ []) }
     ensures cause { HasCause (S.faults source.old) (S.faults source.new) result }
 {
@@ -102,7 +105,8 @@ fn find<S: Source>(
 #[tactic(auto, unfolding(mt_port::specs::Board::powered_up))]
 fn power_up<B: Bench>(alloc: Global, config: Config, board: &mut B) -> Result<Modules, NoMemory>
     requires { IsAcceptedConfig config }
-    ensures ok { IfOk result (λ modules. machine (B.state board.new) modules ≡ started config (B.state board.old).defect) }
+    ensures ok { IfOk result (λ modules. machine (B.state board.new) modules ≡ started config
+        (B.state board.old).defect) }
     ensures ready { IfOk result (λ modules. IsReady config.shape (machine (B.state board.new) modules)) }
     ensures tape { OnOk result (B.tape board.new ≡ Some []) }
     ensures err { OnErr result ((B.state board.new ≡ B.state board.old) × (B.tape board.new ≡ B.tape board.old)) }
@@ -125,7 +129,8 @@ pub(crate) fn tell<K: Sink>(sink: &mut K, text: &[u8], status: Status) -> Status
 
 // Writes the text of a refused configuration.
 fn tell_refused<K: Sink>(sink: &mut K, why: &Refused) -> Status
-    ensures { Told result (Status.BadConfig (number_of_rule why.now)) (bad_config_text why.now) (K.held sink.old) (K.held sink.new) (K.faults sink.old) (K.faults sink.new) }
+    ensures { Told result (Status.BadConfig (number_of_rule why.now)) (bad_config_text why.now) (K.held sink.old)
+        (K.held sink.new) (K.faults sink.old) (K.faults sink.new) }
 {
     tell(
         sink,
@@ -139,8 +144,10 @@ fn tell_refused<K: Sink>(sink: &mut K, why: &Refused) -> Status
 // Writes what stands behind a whole script.
 fn write_closing<K: Sink>(task: &Task, sink: &mut K, count: u32) -> Result<(), Failed>
     requires { IfSome task.now.set IsOfAccepted }
-    ensures ok { OnOk result (Appends (K.held sink.old) (K.held sink.new) (closing_of task.now.form task.now.set count)) }
-    ensures err { OnErr result (AppendsFront (K.held sink.old) (K.held sink.new) (closing_of task.now.form task.now.set count)) }
+    ensures ok { OnOk result (Appends (K.held sink.old) (K.held sink.new)
+        (closing_of task.now.form task.now.set count)) }
+    ensures err { OnErr result (AppendsFront (K.held sink.old) (K.held sink.new)
+        (closing_of task.now.form task.now.set count)) }
     ensures cause { HasCause (K.faults sink.old) (K.faults sink.new) result }
 {
     match task.form {
@@ -153,7 +160,8 @@ fn write_closing<K: Sink>(task: &Task, sink: &mut K, count: u32) -> Result<(), F
 // Writes how a script ended. Answers the status, or that the sink failed.
 fn tell_end<K: Sink>(task: &Task, sink: &mut K, end: End) -> Status
     requires { IfSome task.now.set IsOfAccepted }
-    ensures { Told result (end_status end) (task_end task.now end) (K.held sink.old) (K.held sink.new) (K.faults sink.old) (K.faults sink.new) }
+    ensures { Told result (end_status end) (task_end task.now end) (K.held sink.old) (K.held sink.new)
+        (K.faults sink.old) (K.faults sink.new) }
 {
     match end {
         End::Whole(count) => match write_closing(task, sink, count) {
@@ -173,7 +181,8 @@ fn tell_end<K: Sink>(task: &Task, sink: &mut K, end: End) -> Status
 fn write_opening<K: Sink>(config: &Config, sink: &mut K) -> Result<(), Failed>
     requires { IsAcceptedConfig config.now }
     ensures ok { OnOk result (Appends (K.held sink.old) (K.held sink.new) (opening_text Form.Format config.now)) }
-    ensures err { OnErr result (AppendsFront (K.held sink.old) (K.held sink.new) (opening_text Form.Format config.now)) }
+    ensures err { OnErr result (AppendsFront (K.held sink.old) (K.held sink.new)
+        (opening_text Form.Format config.now)) }
     ensures cause { HasCause (K.faults sink.old) (K.faults sink.new) result }
 {
     write_config(config, sink)?;
@@ -196,8 +205,10 @@ fn migrated(config: Config) -> Config
 // here.
 fn open<K: Sink>(config: Config, sink: &mut K) -> Result<Modules, Status>
     requires { IsAcceptedConfig config }
-    ensures ok { OnOk result (Appends (K.held sink.old) (K.held sink.new) (opening_text Form.Format config) × (K.faults sink.new ≡ K.faults sink.old)) }
-    ensures err { IfErr result (λ how. (how ≡ Status.WriteFault) × AppendsFront (K.held sink.old) (K.held sink.new) (opening_text Form.Format config) × Rose (K.faults sink.old) (K.faults sink.new)) }
+    ensures ok { OnOk result (Appends (K.held sink.old) (K.held sink.new) (opening_text Form.Format config) ×
+        (K.faults sink.new ≡ K.faults sink.old)) }
+    ensures err { IfErr result (λ how. (how ≡ Status.WriteFault) × AppendsFront (K.held sink.old) (K.held sink.new)
+        (opening_text Form.Format config) × Rose (K.faults sink.old) (K.faults sink.new)) }
 {
     match write_opening(&config, sink) {
         Ok(()) => Ok(Modules::new(config)),
@@ -231,11 +242,13 @@ fn begin<K: Sink, B: Bench>(
     board: &mut B,
 ) -> Result<Modules, Status>
     requires { IsAcceptedConfig config }
-    ensures begun { IfOk result (λ modules. IsBegun form config (B.state board.old).defect (machine (B.state board.new) modules) (B.state board.old)
+    ensures begun { IfOk result (λ modules. IsBegun form config (B.state board.old).defect
+        (machine (B.state board.new) modules) (B.state board.old)
         (outputs (K.held sink.old) (K.held sink.new) (B.tape board.old) (B.tape board.new))) }
     ensures ready { IfOk result (λ modules. IsReadyFor form config.shape (machine (B.state board.new) modules)) }
     ensures same { OnOk result (K.faults sink.new ≡ K.faults sink.old) }
-    ensures err { IfErr result (λ how. BeginFails how form config (B.state board.old) (B.state board.new) (K.faults sink.old) (K.faults sink.new)
+    ensures err { IfErr result (λ how. BeginFails how form config (B.state board.old) (B.state board.new)
+        (K.faults sink.old) (K.faults sink.new)
         (outputs (K.held sink.old) (K.held sink.new) (B.tape board.old) (B.tape board.new))) }
 {
     match form {
@@ -261,13 +274,16 @@ fn take_lines<S: Source, K: Sink, B: Bench>(
     requires ready { IsReadyFor task.now.form task.now.shape (machine (B.state board.old) modules.old) }
     requires set { IfSome task.now.set IsOfAccepted }
     ensures ready { IsReadyFor task.now.form task.now.shape (machine (B.state board.new) modules.new) }
-    ensures board { UsesBoard task.now.form (B.state board.old) (B.state board.new) (B.tape board.old) (B.tape board.new) }
-    ensures gives { (a : Option (List ℕ)) (h : Option (List ℕ)) (was : Option (List Touch)) (defect : Option MemoryFault) (before : Board) (c : Config) → IsTask task.now.form c task.now
+    ensures board { UsesBoard task.now.form (B.state board.old) (B.state board.new) (B.tape board.old)
+        (B.tape board.new) }
+    ensures gives { (a : Option (List ℕ)) (h : Option (List ℕ)) (was : Option (List Touch))
+        (defect : Option MemoryFault) (before : Board) (c : Config) → IsTask task.now.form c task.now
         → IsBegun task.now.form c defect (machine (B.state board.old) modules.old) before (outputs h (K.held sink.old) was (B.tape board.old))
         → WhereTold a (prepend_known input.old (S.left source.old)) (Begins c)
         → JobGives result (outcomes task.now.form defect) before (B.state board.new) (S.faults source.old) (S.faults source.new)
         (change a (S.left source.new) h (K.held sink.new) was (B.tape board.new)) }
-    ensures cause { StatusCaused result (S.faults source.old) (S.faults source.new) (K.faults sink.old) (K.faults sink.new) }
+    ensures cause { StatusCaused result (S.faults source.old) (S.faults source.new) (K.faults sink.old)
+        (K.faults sink.new) }
 {
     match run_script(task, modules, board, input, source, sink) {
         Ok(end) => tell_end(task, sink, end),
@@ -287,10 +303,12 @@ fn replay_config<S: Source, K: Sink, B: Bench>(
     board: &mut B,
 ) -> Status
     requires { IsAcceptedConfig config }
-    ensures gives { (a : Option (List ℕ)) → WhereTold a (prepend_known input.old (S.left source.old)) (FoundGives (Found.Config config follows))
+    ensures gives { (a : Option (List ℕ)) → WhereTold a (prepend_known input.old (S.left source.old))
+        (FoundGives (Found.Config config follows))
         → JobGives result (outcomes form (B.state board.old).defect) (B.state board.old) (B.state board.new) (S.faults source.old) (S.faults source.new)
         (change a (S.left source.new) (K.held sink.old) (K.held sink.new) (B.tape board.old) (B.tape board.new)) }
-    ensures cause { StatusCaused result (S.faults source.old) (S.faults source.new) (K.faults sink.old) (K.faults sink.new) }
+    ensures cause { StatusCaused result (S.faults source.old) (S.faults source.new) (K.faults sink.old)
+        (K.faults sink.new) }
     ensures board { UsesBoard form (B.state board.old) (B.state board.new) (B.tape board.old) (B.tape board.new) }
     ensures free { IsLeftFree (B.state board.old) (B.state board.new) }
 {
@@ -314,9 +332,11 @@ pub fn replay_job<S: Source, K: Sink, B: Bench>(
     sink: &mut K,
     board: &mut B,
 ) -> Status
-    ensures gives { JobGives result (outcomes form (B.state board.old).defect) (B.state board.old) (B.state board.new) (S.faults source.old) (S.faults source.new)
+    ensures gives { JobGives result (outcomes form (B.state board.old).defect) (B.state board.old) (B.state board.new)
+        (S.faults source.old) (S.faults source.new)
         (change (S.left source.old) (S.left source.new) (K.held sink.old) (K.held sink.new) (B.tape board.old) (B.tape board.new)) }
-    ensures cause { StatusCaused result (S.faults source.old) (S.faults source.new) (K.faults sink.old) (K.faults sink.new) }
+    ensures cause { StatusCaused result (S.faults source.old) (S.faults source.new) (K.faults sink.old)
+        (K.faults sink.new) }
     ensures board { UsesBoard form (B.state board.old) (B.state board.new) (B.tape board.old) (B.tape board.new) }
     ensures free { IsLeftFree (B.state board.old) (B.state board.new) }
 {

@@ -67,7 +67,8 @@ fn write_entries<K: Sink>(
     number: u32,
 ) -> Result<(), Failed>
     ensures ok { OnOk result (Appends (K.held sink.old) (K.held sink.new) (entries_text width number entries.now)) }
-    ensures err { OnErr result (AppendsFront (K.held sink.old) (K.held sink.new) (entries_text width number entries.now)) }
+    ensures err { OnErr result (AppendsFront (K.held sink.old) (K.held sink.new)
+        (entries_text width number entries.now)) }
     ensures cause { HasCause (K.faults sink.old) (K.faults sink.new) result }
 {
     for entry in entries {
@@ -87,8 +88,10 @@ fn write_answer<K: Sink>(
     width: Width,
     number: u32,
 ) -> Result<(), Failed>
-    ensures ok { OnOk result (Appends (K.held sink.old) (K.held sink.new) (entries_text width number (log.now ++ Entry.Own reply ∷ []))) }
-    ensures err { OnErr result (AppendsFront (K.held sink.old) (K.held sink.new) (entries_text width number (log.now ++ Entry.Own reply ∷ []))) }
+    ensures ok { OnOk result (Appends (K.held sink.old) (K.held sink.new)
+        (entries_text width number (log.now ++ Entry.Own reply ∷ []))) }
+    ensures err { OnErr result (AppendsFront (K.held sink.old) (K.held sink.new)
+        (entries_text width number (log.now ++ Entry.Own reply ∷ []))) }
     ensures cause { HasCause (K.faults sink.old) (K.faults sink.new) result }
 {
     match write_entries(sink, log, width, number) {
@@ -110,9 +113,11 @@ fn play_line<K: Sink, B: Bench>(
     requires line { IsAcceptedLine shape desk.old.line }
     ensures ready { IsReady shape (machine (B.state board.new) modules.new) }
     ensures board { UsesBoard Form.Run (B.state board.old) (B.state board.new) (B.tape board.old) (B.tape board.new) }
-    ensures ok { OnOk result (Answered (place Form.Run shape number) (machine (B.state board.old) modules.old) (machine (B.state board.new) modules.new)
+    ensures ok { OnOk result (Answered (place Form.Run shape number) (machine (B.state board.old) modules.old)
+        (machine (B.state board.new) modules.new)
         (desk.old.line ∷ []) (outputs (K.held sink.old) (K.held sink.new) (B.tape board.old) (B.tape board.new))) }
-    ensures err { OnErr result (AppendsFront (K.held sink.old) (K.held sink.new) (text_at (place Form.Run shape number) (machine (B.state board.old) modules.old) (desk.old.line ∷ []))) }
+    ensures err { OnErr result (AppendsFront (K.held sink.old) (K.held sink.new)
+        (text_at (place Form.Run shape number) (machine (B.state board.old) modules.old) (desk.old.line ∷ []))) }
     ensures cause { HasCause (K.faults sink.old) (K.faults sink.new) result }
 {
     ram_keeps_the_board();
@@ -126,8 +131,10 @@ fn play_line<K: Sink, B: Bench>(
 
 // Writes an accepted line in canonical form.
 fn format_line<K: Sink>(shape: Shape, sink: &mut K, desk: &mut Desk) -> Result<(), Failed>
-    ensures ok { (m : Machine) (number : _) → OnOk result (Appends (K.held sink.old) (K.held sink.new) (text_at (place Form.Format shape number) m (desk.old.line ∷ []))) }
-    ensures err { (m : Machine) (number : _) → OnErr result (AppendsFront (K.held sink.old) (K.held sink.new) (text_at (place Form.Format shape number) m (desk.old.line ∷ []))) }
+    ensures ok { (m : Machine) (number : _) → OnOk result (Appends (K.held sink.old) (K.held sink.new)
+        (text_at (place Form.Format shape number) m (desk.old.line ∷ []))) }
+    ensures err { (m : Machine) (number : _) → OnErr result (AppendsFront (K.held sink.old) (K.held sink.new)
+        (text_at (place Form.Format shape number) m (desk.old.line ∷ []))) }
     ensures cause { HasCause (K.faults sink.old) (K.faults sink.new) result }
 {
     desk.canonical.clear();
@@ -147,10 +154,14 @@ fn answer_line<K: Sink, B: Bench>(
     requires ready { IsReadyFor task.now.form task.now.shape (machine (B.state board.old) modules.old) }
     requires line { IsAcceptedLine task.now.shape desk.old.line }
     ensures ready { IsReadyFor task.now.form task.now.shape (machine (B.state board.new) modules.new) }
-    ensures board { UsesBoard task.now.form (B.state board.old) (B.state board.new) (B.tape board.old) (B.tape board.new) }
-    ensures ok { OnOk result (Answered (place task.now.form task.now.shape number) (machine (B.state board.old) modules.old) (machine (B.state board.new) modules.new)
+    ensures board { UsesBoard task.now.form (B.state board.old) (B.state board.new) (B.tape board.old)
+        (B.tape board.new) }
+    ensures ok { OnOk result (Answered (place task.now.form task.now.shape number)
+        (machine (B.state board.old) modules.old) (machine (B.state board.new) modules.new)
         (desk.old.line ∷ []) (outputs (K.held sink.old) (K.held sink.new) (B.tape board.old) (B.tape board.new))) }
-    ensures err { OnErr result (AppendsFront (K.held sink.old) (K.held sink.new) (text_at (place task.now.form task.now.shape number) (machine (B.state board.old) modules.old) (desk.old.line ∷ []))) }
+    ensures err { OnErr result (AppendsFront (K.held sink.old) (K.held sink.new)
+        (text_at (place task.now.form task.now.shape number) (machine (B.state board.old) modules.old)
+        (desk.old.line ∷ []))) }
     ensures cause { HasCause (K.faults sink.old) (K.faults sink.new) result }
 {
     match task.form {
@@ -172,8 +183,10 @@ fn judge_line<K: Sink, B: Bench>(
     requires ready { IsReadyFor task.now.form task.now.shape (machine (B.state board.old) modules.old) }
     requires few { number ≤ 1000000 }
     ensures ready { IsReadyFor task.now.form task.now.shape (machine (B.state board.new) modules.new) }
-    ensures board { UsesBoard task.now.form (B.state board.old) (B.state board.new) (B.tape board.old) (B.tape board.new) }
-    ensures gives { LineGives result (place task.now.form task.now.shape number) (judged task.now.shape number desk.old.text.items) (machine (B.state board.old) modules.old)
+    ensures board { UsesBoard task.now.form (B.state board.old) (B.state board.new) (B.tape board.old)
+        (B.tape board.new) }
+    ensures gives { LineGives result (place task.now.form task.now.shape number)
+        (judged task.now.shape number desk.old.text.items) (machine (B.state board.old) modules.old)
         (machine (B.state board.new) modules.new) (outputs (K.held sink.old) (K.held sink.new) (B.tape board.old) (B.tape board.new)) }
     ensures cause { HasCause (K.faults sink.old) (K.faults sink.new) result }
 {
@@ -202,8 +215,10 @@ fn last_line<K: Sink, B: Bench>(
     requires ready { IsReadyFor task.now.form task.now.shape (machine (B.state board.old) modules.old) }
     requires few { number ≤ 1000000 }
     ensures ready { IsReadyFor task.now.form task.now.shape (machine (B.state board.new) modules.new) }
-    ensures board { UsesBoard task.now.form (B.state board.old) (B.state board.new) (B.tape board.old) (B.tape board.new) }
-    ensures gives { LastGives result (place task.now.form task.now.shape number) (judged task.now.shape number desk.old.text.items) (machine (B.state board.old) modules.old)
+    ensures board { UsesBoard task.now.form (B.state board.old) (B.state board.new) (B.tape board.old)
+        (B.tape board.new) }
+    ensures gives { LastGives result (place task.now.form task.now.shape number)
+        (judged task.now.shape number desk.old.text.items) (machine (B.state board.old) modules.old)
         (machine (B.state board.new) modules.new) (outputs (K.held sink.old) (K.held sink.new) (B.tape board.old) (B.tape board.new)) }
     ensures cause { HasCause (K.faults sink.old) (K.faults sink.new) result }
 {
@@ -229,11 +244,14 @@ fn run_line<S: Source, K: Sink, B: Bench>(
     requires first { 1 ≤ number }
     requires few { number ≤ 1000000 }
     ensures ready { IsReadyFor task.now.form task.now.shape (machine (B.state board.new) modules.new) }
-    ensures board { UsesBoard task.now.form (B.state board.old) (B.state board.new) (B.tape board.old) (B.tape board.new) }
-    ensures gives { TurnGives result (place task.now.form task.now.shape number) (machine (B.state board.old) modules.old) (machine (B.state board.new) modules.new)
+    ensures board { UsesBoard task.now.form (B.state board.old) (B.state board.new) (B.tape board.old)
+        (B.tape board.new) }
+    ensures gives { TurnGives result (place task.now.form task.now.shape number)
+        (machine (B.state board.old) modules.old) (machine (B.state board.new) modules.new)
         (change (prepend_known input.old (S.left source.old)) (prepend_known input.new (S.left source.new)) (K.held sink.old) (K.held sink.new) (B.tape board.old) (B.tape board.new)) }
     ensures none { result ≡ Ok (Turn.Ended End.Broken) → input.new ≡ [] }
-    ensures cause { TurnCaused result (S.faults source.old) (S.faults source.new) (K.faults sink.old) (K.faults sink.new) }
+    ensures cause { TurnCaused result (S.faults source.old) (S.faults source.new) (K.faults sink.old)
+        (K.faults sink.new) }
 {
     desk.text.clear();
     match input.read_line(source, &mut desk.text) {
@@ -254,7 +272,8 @@ fn run_line<S: Source, K: Sink, B: Bench>(
 
 // What comes behind the last line that may be: the end, or a line too many.
 fn run_past<S: Source>(input: &mut Input, source: &mut S) -> End
-    ensures gives { (shape : Shape) → PastGives result shape (prepend_known input.old (S.left source.old)) (prepend_known input.new (S.left source.new)) }
+    ensures gives { (shape : Shape) → PastGives result shape (prepend_known input.old (S.left source.old))
+        (prepend_known input.new (S.left source.new)) }
     ensures none { result ≡ End.Broken → input.new ≡ [] }
     ensures cause { EndCaused result (S.faults source.old) (S.faults source.new) }
 {
@@ -280,11 +299,14 @@ pub fn run_script<S: Source, K: Sink, B: Bench>(
 ) -> Result<End, Failed>
     requires { IsReadyFor task.now.form task.now.shape (machine (B.state board.old) modules.old) }
     ensures ready { IsReadyFor task.now.form task.now.shape (machine (B.state board.new) modules.new) }
-    ensures board { UsesBoard task.now.form (B.state board.old) (B.state board.new) (B.tape board.old) (B.tape board.new) }
-    ensures gives { ScriptGives result (place task.now.form task.now.shape 1) (machine (B.state board.old) modules.old) (machine (B.state board.new) modules.new)
+    ensures board { UsesBoard task.now.form (B.state board.old) (B.state board.new) (B.tape board.old)
+        (B.tape board.new) }
+    ensures gives { ScriptGives result (place task.now.form task.now.shape 1)
+        (machine (B.state board.old) modules.old) (machine (B.state board.new) modules.new)
         (change (prepend_known input.old (S.left source.old)) (prepend_known input.new (S.left source.new)) (K.held sink.old) (K.held sink.new) (B.tape board.old) (B.tape board.new)) }
     ensures none { result ≡ Ok End.Broken → input.new ≡ [] }
-    ensures cause { ScriptCaused result (S.faults source.old) (S.faults source.new) (K.faults sink.old) (K.faults sink.new) }
+    ensures cause { ScriptCaused result (S.faults source.old) (S.faults source.new) (K.faults sink.old)
+        (K.faults sink.new) }
 {
     let mut desk = Desk::new();
     for number in 1..=1_000_000 {

@@ -78,9 +78,10 @@ fn form_of(words: &[String]) -> Option<Form>
 
 /// Does what the words after the program's name ask for: `run` reads a job from the source, replays it on the board and
 /// writes its trace to the sink; `check` reads a job and writes the closing line alone; `fmt` reads a job and writes it
-/// in canonical form, without a closing line; `migrate` does so with a configuration of version 2; `cut S T L` reads a job and writes the fewest ticks in which a pass over
-/// its set S may be cut with at most T accesses per tick, and the greatest slice for which no request waits longer than
-/// L accesses. All other words answer `Usage`. Memory is taken before the first byte is written.
+/// in canonical form, without a closing line; `migrate` does so with a configuration of version 2; `cut S T L` reads a job
+/// and writes the fewest ticks in which a pass over its set S may be cut with at most T accesses per tick, and the greatest
+/// slice for which no request waits longer than L accesses. All other words answer `Usage`. Memory is taken before the
+/// first byte is written.
 pub fn replay<S: Source, K: Sink, B: Bench>(
     alloc: Global,
     words: &[String],
@@ -88,14 +89,18 @@ pub fn replay<S: Source, K: Sink, B: Bench>(
     sink: &mut K,
     board: &mut B,
 ) -> Status
-    ensures gives { Replays (form_of words.now) result (B.state board.old).defect (B.state board.old) (B.state board.new) (S.faults source.old) (S.faults source.new) (K.faults sink.old) (K.faults sink.new)
+    ensures gives { Replays (form_of words.now) result (B.state board.old).defect (B.state board.old)
+        (B.state board.new) (S.faults source.old) (S.faults source.new) (K.faults sink.old) (K.faults sink.new)
         (change (S.left source.old) (S.left source.new) (K.held sink.old) (K.held sink.new) (B.tape board.old) (B.tape board.new)) }
-    ensures cause { StatusCaused result (S.faults source.old) (S.faults source.new) (K.faults sink.old) (K.faults sink.new) }
+    ensures cause { StatusCaused result (S.faults source.old) (S.faults source.new) (K.faults sink.old)
+        (K.faults sink.new) }
     // Only a replay uses the board, whatever becomes of the streams; behind a power-up it is left free.
-    ensures board { LeavesBoard (form_of words.now) (B.state board.old) (B.state board.new) (B.tape board.old) (B.tape board.new) }
+    ensures board { LeavesBoard (form_of words.now) (B.state board.old) (B.state board.new) (B.tape board.old)
+        (B.tape board.new) }
     ensures free { IsLeftFree (B.state board.old) (B.state board.new) }
     // Where neither stream failed, an accepted job ends in `Done`, or no memory was found.
-    ensures complete { Completes (form_of words.now) result (B.state board.old).defect (S.left source.old) (S.faults source.old) (S.faults source.new) (K.faults sink.old) (K.faults sink.new) }
+    ensures complete { Completes (form_of words.now) result (B.state board.old).defect (S.left source.old)
+        (S.faults source.old) (S.faults source.new) (K.faults sink.old) (K.faults sink.new) }
     // Whatever bytes the job has, each request of its replay is served where its offset says; it waits 0, or less than the
     // length of the attempt that it meets; and an urgent one at most the words of the slice, where the attempt may be dropped.
     ensures latency { AreServedInTime (form_of words.now) (B.state board.old).defect }
