@@ -1,7 +1,9 @@
 //! Laws of faults of a slice.
 
 ghost use Rattle.mt_locate.specs.Explanations.{MissesAreThoseOfTheMemory};
+ghost use Rattle.mt_locate.specs.Listed.{ExplainsIsTested};
 ghost use Rattle.mt_locate.specs.Moved.{FaultsStayWellPlaced};
+ghost use Rattle.mt_locate.specs.Suspects.{FirstMissTellsWhatIsSeen};
 
 use mt_plan::plans_are_steady;
 
@@ -14,6 +16,19 @@ pub fn faults_of_a_slice_stay_well_placed()
 /// in each of its words, whatever its other words are.
 pub fn misses_are_those_of_the_memory()
     ensures { MissesAreThoseOfTheMemory }
+{
+    plans_are_steady();
+    faults_of_a_slice_stay_well_placed();
+}
+
+/// The faults of a list that explain the misses are those of the definition.
+pub fn explaining_is_tested()
+    ensures { ExplainsIsTested }
+{}
+
+/// Where a word without a cell explains the misses, the first miss tells what is seen there.
+pub fn first_miss_tells_what_is_seen()
+    ensures { FirstMissTellsWhatIsSeen }
 {
     plans_are_steady();
     faults_of_a_slice_stay_well_placed();

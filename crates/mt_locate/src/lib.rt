@@ -2,13 +2,19 @@
 #![tactic(auto)]
 
 mod explain;
+mod kinds;
 mod laws;
+mod list;
 mod moved;
 mod probe;
 mod stand_in;
 
 pub use explain::explains;
-pub use laws::{faults_of_a_slice_stay_well_placed, misses_are_those_of_the_memory};
+pub use laws::{
+    explaining_is_tested, faults_of_a_slice_stay_well_placed, first_miss_tells_what_is_seen,
+    misses_are_those_of_the_memory,
+};
+pub use list::list_faults;
 pub use probe::{Miss, Probe};
 pub use stand_in::scratch;
 
