@@ -6,4 +6,5 @@ pub mod CellReads
 pub mod Tested
 pub mod Sound
 pub mod Culprits
+pub mod Suspicion
 pub mod Seen

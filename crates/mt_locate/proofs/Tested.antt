@@ -35,3 +35,11 @@ tested probe misses f = decided probe misses f
 -- a test with the same meaning has the same result
 pub test_is : (probe : Probe) (misses : List Miss) (f : Fault) (r : Bool) → (IsTrue r ↔ Explains probe misses f) → r ≡ explains probe misses f
 test_is probe misses f r same = same_from_decides r (explains probe misses f) same (decided probe misses f)
+
+-- a fault that is no suspect explains nothing
+pub innocent : (probe : Probe) (misses : List Miss) (f : Fault) {suspected : Bool} → (Explains probe misses f → suspected ≡ true) → suspected ≡ false → explains probe misses f ≡ false
+innocent probe misses f {suspected} law no_suspect = of (explains probe misses f) refl
+  where
+    of : (b : Bool) → explains probe misses f ≡ b → explains probe misses f ≡ false
+    of true e = let t : true ≡ false = sym (law ((decided probe misses f).0 e)) ∙ no_suspect in absurd (cc)
+    of false e = e

@@ -3,9 +3,10 @@
 ghost use Rattle.mt_locate.specs.Explanations.{MissesAreThoseOfTheMemory};
 ghost use Rattle.mt_locate.specs.Listed.{ExplainsIsTested};
 ghost use Rattle.mt_locate.specs.Moved.{FaultsStayWellPlaced};
-ghost use Rattle.mt_locate.specs.Suspects.{FirstMissTellsWhatIsSeen};
+ghost use Rattle.mt_locate.specs.Suspects.{CulpritsAreSuspects, FirstMissTellsWhatIsSeen};
 
 use mt_plan::plans_are_steady;
+use mt_word::bits_are_put;
 
 /// A fault that lies inside a slice of n words lies, moved down, in n words.
 pub fn faults_of_a_slice_stay_well_placed()
@@ -30,6 +31,15 @@ pub fn explaining_is_tested()
 pub fn first_miss_tells_what_is_seen()
     ensures { FirstMissTellsWhatIsSeen }
 {
+    plans_are_steady();
+    faults_of_a_slice_stay_well_placed();
+}
+
+/// A fault that explains the misses is one that may make the read of the first miss answer so.
+pub fn culprits_are_suspects()
+    ensures { CulpritsAreSuspects }
+{
+    bits_are_put();
     plans_are_steady();
     faults_of_a_slice_stay_well_placed();
 }

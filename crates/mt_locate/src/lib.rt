@@ -1,6 +1,7 @@
 //! Fault location: which single faults explain what was read of a slice.
 #![tactic(auto)]
 
+mod evidence;
 mod explain;
 mod kinds;
 mod laws;
@@ -11,7 +12,7 @@ mod stand_in;
 
 pub use explain::explains;
 pub use laws::{
-    explaining_is_tested, faults_of_a_slice_stay_well_placed, first_miss_tells_what_is_seen,
+    culprits_are_suspects, explaining_is_tested, faults_of_a_slice_stay_well_placed, first_miss_tells_what_is_seen,
     misses_are_those_of_the_memory,
 };
 pub use list::list_faults;

@@ -10,11 +10,13 @@ ghost use Rattle.mt_port.specs.Streams.{AppendsFront};
 ghost use Rattle.mt_locate.specs.Probes.{IsAcceptedProbe, scratch_of};
 ghost use Rattle.mt_locate.specs.Moved.{IsFaultOfSlice};
 ghost use Rattle.mt_locate.specs.Listed.{spot_at, on_bit, coupled, crossed, all_on_bit, all_coupled, all_seen, all_crossed, bit_kinds, coupling_kinds, cell_kinds, fault_line, fault_lines, faults_of, located, spots};
-ghost use Rattle.mt_locate.specs.Inner.Listing.{change, Lists, IsSpotOfSlice, faults_in};
+ghost use Rattle.mt_locate.specs.Suspects.{evidence_of};
+ghost use Rattle.mt_locate.specs.Inner.Listing.{change, ExpectedFits, Lists, IsSpotOfSlice, faults_in};
 
+use crate::evidence::{Evidence, evidence_of, is_suspect};
 use crate::explain::explains;
 use crate::kinds::{Coupling, OfBit, OfCells, bit_kinds, cell_kinds, coupling_kinds};
-use crate::laws::first_miss_tells_what_is_seen;
+use crate::laws::{culprits_are_suspects, first_miss_tells_what_is_seen};
 use crate::probe::{Miss, Probe};
 use arrayvec::ArrayVec;
 use mt_fault::{Cells, Fault, Spot};
@@ -27,6 +29,7 @@ use mt_word::{Width, bits, fits};
 struct Syndrome<'a> {
     probe: &'a Probe,
     misses: &'a [Miss],
+    evidence: Evidence,
 }
 
 /// Faults that differ at most in a bit's value or in how two cells are wired.
@@ -184,12 +187,18 @@ fn list_one<K: Sink>(
 ) -> Result<u32, Failed>
     requires accepted { IsAcceptedProbe syndrome.now.probe.now }
     requires scratch { cells.old ≡ scratch_of syndrome.now.probe.now }
+    requires told { syndrome.now.evidence ≡ evidence_of syndrome.now.probe.now syndrome.now.misses.now }
+    requires expected { ExpectedFits syndrome.now.probe.now.width syndrome.now.evidence }
     requires inside { IsFaultOfSlice syndrome.now.probe.now.width syndrome.now.probe.now.first syndrome.now.probe.now.n fault }
     ensures lists { Lists syndrome.now.probe.now syndrome.now.misses.now (fault ∷ [])
       (change (K.held sink.old) (K.held sink.new) (K.faults sink.old) (K.faults sink.new)) result }
     ensures few { IfOk result (λ n. n ≤ 1) }
     ensures after { cells.new ≡ scratch_of syndrome.now.probe.now }
 {
+    culprits_are_suspects();
+    if !is_suspect(syndrome.probe.width, syndrome.evidence, fault) {
+        return Ok(0);
+    }
     if !explains(cells, syndrome.probe, syndrome.misses, fault) {
         return Ok(0);
     }
@@ -207,6 +216,8 @@ fn list_two<K: Sink>(
 ) -> Result<u32, Failed>
     requires accepted { IsAcceptedProbe syndrome.now.probe.now }
     requires scratch { cells.old ≡ scratch_of syndrome.now.probe.now }
+    requires told { syndrome.now.evidence ≡ evidence_of syndrome.now.probe.now syndrome.now.misses.now }
+    requires expected { ExpectedFits syndrome.now.probe.now.width syndrome.now.evidence }
     requires one { IsFaultOfSlice syndrome.now.probe.now.width syndrome.now.probe.now.first syndrome.now.probe.now.n one }
     requires other { IsFaultOfSlice syndrome.now.probe.now.width syndrome.now.probe.now.first syndrome.now.probe.now.n other }
     ensures lists { Lists syndrome.now.probe.now syndrome.now.misses.now (one ∷ other ∷ [])
@@ -228,6 +239,8 @@ fn list_few<K: Sink>(
 ) -> Result<u32, Failed>
     requires accepted { IsAcceptedProbe syndrome.now.probe.now }
     requires scratch { cells.old ≡ scratch_of syndrome.now.probe.now }
+    requires told { syndrome.now.evidence ≡ evidence_of syndrome.now.probe.now syndrome.now.misses.now }
+    requires expected { ExpectedFits syndrome.now.probe.now.width syndrome.now.evidence }
     requires inside { AllByRecursion (IsFaultOfSlice syndrome.now.probe.now.width syndrome.now.probe.now.first syndrome.now.probe.now.n) (faults_in faults) }
     ensures lists { Lists syndrome.now.probe.now syndrome.now.misses.now (faults_in faults)
       (change (K.held sink.old) (K.held sink.new) (K.faults sink.old) (K.faults sink.new)) result }
@@ -250,6 +263,8 @@ fn list_on_bit<K: Sink>(
 ) -> Result<u32, Failed>
     requires accepted { IsAcceptedProbe syndrome.now.probe.now }
     requires scratch { cells.old ≡ scratch_of syndrome.now.probe.now }
+    requires told { syndrome.now.evidence ≡ evidence_of syndrome.now.probe.now syndrome.now.misses.now }
+    requires expected { ExpectedFits syndrome.now.probe.now.width syndrome.now.evidence }
     ensures lists { Lists syndrome.now.probe.now syndrome.now.misses.now
       (all_on_bit syndrome.now.probe.now.width syndrome.now.probe.now.first syndrome.now.probe.now.n kind)
       (change (K.held sink.old) (K.held sink.new) (K.faults sink.old) (K.faults sink.new)) result }
@@ -274,6 +289,8 @@ fn list_victims<K: Sink>(
 ) -> Result<u32, Failed>
     requires accepted { IsAcceptedProbe syndrome.now.probe.now }
     requires scratch { cells.old ≡ scratch_of syndrome.now.probe.now }
+    requires told { syndrome.now.evidence ≡ evidence_of syndrome.now.probe.now syndrome.now.misses.now }
+    requires expected { ExpectedFits syndrome.now.probe.now.width syndrome.now.evidence }
     requires agg { IsSpotOfSlice syndrome.now.probe.now agg }
     ensures lists { Lists syndrome.now.probe.now syndrome.now.misses.now
       (flat_map (coupled kind agg) (spots syndrome.now.probe.now.width syndrome.now.probe.now.first syndrome.now.probe.now.n))
@@ -298,6 +315,8 @@ fn list_coupled<K: Sink>(
 ) -> Result<u32, Failed>
     requires accepted { IsAcceptedProbe syndrome.now.probe.now }
     requires scratch { cells.old ≡ scratch_of syndrome.now.probe.now }
+    requires told { syndrome.now.evidence ≡ evidence_of syndrome.now.probe.now syndrome.now.misses.now }
+    requires expected { ExpectedFits syndrome.now.probe.now.width syndrome.now.evidence }
     ensures lists { Lists syndrome.now.probe.now syndrome.now.misses.now
       (all_coupled syndrome.now.probe.now.width syndrome.now.probe.now.first syndrome.now.probe.now.n kind)
       (change (K.held sink.old) (K.held sink.new) (K.faults sink.old) (K.faults sink.new)) result }
@@ -322,6 +341,8 @@ fn list_others<K: Sink>(
 ) -> Result<u32, Failed>
     requires accepted { IsAcceptedProbe syndrome.now.probe.now }
     requires scratch { cells.old ≡ scratch_of syndrome.now.probe.now }
+    requires told { syndrome.now.evidence ≡ evidence_of syndrome.now.probe.now syndrome.now.misses.now }
+    requires expected { ExpectedFits syndrome.now.probe.now.width syndrome.now.evidence }
     requires addr { IsWithin syndrome.now.probe.now.first syndrome.now.probe.now.n addr }
     ensures lists { Lists syndrome.now.probe.now syndrome.now.misses.now
       (flat_map (crossed kind addr) (range_with_len syndrome.now.probe.now.first syndrome.now.probe.now.n))
@@ -346,6 +367,8 @@ fn list_crossed<K: Sink>(
 ) -> Result<u32, Failed>
     requires accepted { IsAcceptedProbe syndrome.now.probe.now }
     requires scratch { cells.old ≡ scratch_of syndrome.now.probe.now }
+    requires told { syndrome.now.evidence ≡ evidence_of syndrome.now.probe.now syndrome.now.misses.now }
+    requires expected { ExpectedFits syndrome.now.probe.now.width syndrome.now.evidence }
     ensures lists { Lists syndrome.now.probe.now syndrome.now.misses.now
       (all_crossed syndrome.now.probe.now.first syndrome.now.probe.now.n kind)
       (change (K.held sink.old) (K.held sink.new) (K.faults sink.old) (K.faults sink.new)) result }
@@ -372,6 +395,8 @@ fn list_seen<K: Sink>(
 ) -> Result<u32, Failed>
     requires accepted { IsAcceptedProbe syndrome.now.probe.now }
     requires scratch { cells.old ≡ scratch_of syndrome.now.probe.now }
+    requires told { syndrome.now.evidence ≡ evidence_of syndrome.now.probe.now syndrome.now.misses.now }
+    requires expected { ExpectedFits syndrome.now.probe.now.width syndrome.now.evidence }
     requires addr { IsWithin syndrome.now.probe.now.first syndrome.now.probe.now.n addr }
     ensures lists { Lists syndrome.now.probe.now syndrome.now.misses.now
       (all_seen syndrome.now.probe.now.width addr)
@@ -402,6 +427,8 @@ fn list_no_cell<K: Sink>(
 ) -> Result<u32, Failed>
     requires accepted { IsAcceptedProbe syndrome.now.probe.now }
     requires scratch { cells.old ≡ scratch_of syndrome.now.probe.now }
+    requires told { syndrome.now.evidence ≡ evidence_of syndrome.now.probe.now syndrome.now.misses.now }
+    requires expected { ExpectedFits syndrome.now.probe.now.width syndrome.now.evidence }
     ensures lists { Lists syndrome.now.probe.now syndrome.now.misses.now
       (flat_map (all_seen syndrome.now.probe.now.width) (range_with_len syndrome.now.probe.now.first syndrome.now.probe.now.n))
       (change (K.held sink.old) (K.held sink.new) (K.faults sink.old) (K.faults sink.new)) result }
@@ -423,6 +450,8 @@ fn list_bit_kinds<K: Sink>(
 ) -> Result<u32, Failed>
     requires accepted { IsAcceptedProbe syndrome.now.probe.now }
     requires scratch { cells.old ≡ scratch_of syndrome.now.probe.now }
+    requires told { syndrome.now.evidence ≡ evidence_of syndrome.now.probe.now syndrome.now.misses.now }
+    requires expected { ExpectedFits syndrome.now.probe.now.width syndrome.now.evidence }
     ensures lists { Lists syndrome.now.probe.now syndrome.now.misses.now
       (flat_map (all_on_bit syndrome.now.probe.now.width syndrome.now.probe.now.first syndrome.now.probe.now.n) bit_kinds)
       (change (K.held sink.old) (K.held sink.new) (K.faults sink.old) (K.faults sink.new)) result }
@@ -444,6 +473,8 @@ fn list_coupling_kinds<K: Sink>(
 ) -> Result<u32, Failed>
     requires accepted { IsAcceptedProbe syndrome.now.probe.now }
     requires scratch { cells.old ≡ scratch_of syndrome.now.probe.now }
+    requires told { syndrome.now.evidence ≡ evidence_of syndrome.now.probe.now syndrome.now.misses.now }
+    requires expected { ExpectedFits syndrome.now.probe.now.width syndrome.now.evidence }
     ensures lists { Lists syndrome.now.probe.now syndrome.now.misses.now
       (flat_map (all_coupled syndrome.now.probe.now.width syndrome.now.probe.now.first syndrome.now.probe.now.n) coupling_kinds)
       (change (K.held sink.old) (K.held sink.new) (K.faults sink.old) (K.faults sink.new)) result }
@@ -465,6 +496,8 @@ fn list_cell_kinds<K: Sink>(
 ) -> Result<u32, Failed>
     requires accepted { IsAcceptedProbe syndrome.now.probe.now }
     requires scratch { cells.old ≡ scratch_of syndrome.now.probe.now }
+    requires told { syndrome.now.evidence ≡ evidence_of syndrome.now.probe.now syndrome.now.misses.now }
+    requires expected { ExpectedFits syndrome.now.probe.now.width syndrome.now.evidence }
     ensures lists { Lists syndrome.now.probe.now syndrome.now.misses.now
       (flat_map (all_crossed syndrome.now.probe.now.first syndrome.now.probe.now.n) cell_kinds)
       (change (K.held sink.old) (K.held sink.new) (K.faults sink.old) (K.faults sink.new)) result }
@@ -486,6 +519,8 @@ fn list_all<K: Sink>(
 ) -> Result<u32, Failed>
     requires accepted { IsAcceptedProbe syndrome.now.probe.now }
     requires scratch { cells.old ≡ scratch_of syndrome.now.probe.now }
+    requires told { syndrome.now.evidence ≡ evidence_of syndrome.now.probe.now syndrome.now.misses.now }
+    requires expected { ExpectedFits syndrome.now.probe.now.width syndrome.now.evidence }
     ensures lists { Lists syndrome.now.probe.now syndrome.now.misses.now
       (faults_of syndrome.now.probe.now.width syndrome.now.probe.now.first syndrome.now.probe.now.n)
       (change (K.held sink.old) (K.held sink.new) (K.faults sink.old) (K.faults sink.new)) result }
@@ -521,5 +556,10 @@ pub fn list_faults<K: Sink>(
     ensures cause { HasCause (K.faults sink.old) (K.faults sink.new) result }
     ensures after { cells.new ≡ scratch_of probe.now }
 {
-    list_all(cells, &Syndrome { probe, misses }, sink)
+    let syndrome = Syndrome {
+        probe,
+        misses,
+        evidence: evidence_of(probe, misses),
+    };
+    list_all(cells, &syndrome, sink)
 }

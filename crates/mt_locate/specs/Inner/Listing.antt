@@ -1,15 +1,20 @@
 -- What is said of the parts of a list between calls.
 use Rattle.std.specs.Prelude.{ℕ, ◌≡◌, ◌<◌, List, [], ◌∷◌, length, Option, Result, IfOk, OnErr}
 use Rattle.std.specs.Io.KnownBytes.{Appends}
-use Rattle.mt_word.specs.Word.{width_bits}
+use Rattle.mt_word.specs.declared.Width.{Width}
+use Rattle.mt_word.specs.Word.{Fits, width_bits}
 use Rattle.mt_fault.specs.declared.fault.Spot.{Spot}
 use Rattle.mt_fault.specs.declared.fault.Fault.{Fault}
 use Rattle.mt_fault.specs.Placement.{IsWithin}
+use Rattle.mt_fault.specs.Rules.{vic_of}
 use Rattle.mt_port.specs.declared.stream.Failed.{Failed}
 use Rattle.mt_port.specs.Causes.{HasCause}
 use Rattle.mt_port.specs.Streams.{AppendsFront}
 use Rattle.mt_locate.specs.declared.probe.Probe.{Probe}
 use Rattle.mt_locate.specs.declared.probe.Miss.{Miss}
+use Rattle.mt_locate.specs.declared.evidence.Evidence.{Evidence}
+use Rattle.mt_locate.specs.declared.evidence.Evidence.TheVariants.{NoMiss, NoRead}
+use Rattle.mt_locate.specs.declared.evidence.Evidence.TheVariants as evidence
 use Rattle.mt_locate.specs.declared.list.Few.{Few}
 use Rattle.mt_locate.specs.declared.list.Few.TheVariants as few
 use Rattle.mt_locate.specs.Listed.{explaining, fault_lines}
@@ -44,3 +49,13 @@ abbrev pub faults_in : Few → List Fault
 faults_in few.None = []
 faults_in (few.One f) = f ∷ []
 faults_in (few.Two f g) = f ∷ g ∷ []
+
+-- the word that was expected is one of the width
+abbrev pub ExpectedFits : Width → Evidence → Type 0
+ExpectedFits width NoMiss = Unit {0}
+ExpectedFits width NoRead = Unit {0}
+ExpectedFits width (evidence.Read addr expected answered) = Fits width expected
+
+-- the victim is a bit of the width
+abbrev pub VictimFits : Width → Fault → Type 0
+VictimFits width fault = (vic_of fault).bit < width_bits width

@@ -1,7 +1,17 @@
-use Rattle.std.proofs.Common.{sym, ◌∙◌}
+use Rattle.std.proofs.Common.{ap, sym, ◌∙◌}
+use Rattle.mt_locate.specs.declared.evidence.Evidence.{Evidence}
+use Rattle.mt_locate.specs.Suspects.{suspect}
 use Rattle.mt_locate.proofs.Listing.{Lists-left_out, Lists-taken, Lists-cut, Lists-err}
-use Rattle.mt_locate.proofs.Tested.{test_is}
+use Rattle.mt_locate.proofs.Tested.{test_is, innocent}
 use Rattle.mt_locate.proofs.list.list_one.Goals as goal
+
+pub returns-then-not-is_suspect-clause-lists : goal.returns-then-not-is_suspect-clause-lists
+returns-then-not-is_suspect-clause-lists g c =
+    let probe = c.args.syndrome.now.probe.now in
+    let misses = c.args.syndrome.now.misses.now in
+    Lists-left_out probe misses c.args.fault _ _
+    (innocent probe misses c.args.fault (λ e. c.culprits_are_suspects.ensures probe misses c.args.fault c.requires.accepted c.requires.inside e)
+    (ap (λ (e : Evidence). suspect e c.args.fault) (sym c.requires.told) ∙ sym c.is_suspect.ensures ∙ c.if-not-is_suspect.true))
 
 pub returns-then-not-explains-clause-lists : goal.returns-then-not-explains-clause-lists
 returns-then-not-explains-clause-lists g c =
