@@ -7,4 +7,5 @@ pub mod Tested
 pub mod Sound
 pub mod Culprits
 pub mod Suspicion
+pub mod LineWords
 pub mod Seen

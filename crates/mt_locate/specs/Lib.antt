@@ -4,4 +4,5 @@ pub mod Misses
 pub mod Explanations
 pub mod Suspects
 pub mod Listed
+pub mod LocateLines
 pub mod Inner

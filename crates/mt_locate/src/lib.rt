@@ -6,9 +6,13 @@ mod explain;
 mod kinds;
 mod laws;
 mod list;
+mod miss_line;
 mod moved;
 mod probe;
+mod refusal;
+mod slice_line;
 mod stand_in;
+mod words;
 
 pub use explain::explains;
 pub use laws::{
@@ -16,7 +20,10 @@ pub use laws::{
     misses_are_those_of_the_memory,
 };
 pub use list::list_faults;
+pub use miss_line::read_miss;
 pub use probe::{Miss, Probe};
+pub use refusal::{LocateKind, LocateRefusal};
+pub use slice_line::read_slice;
 pub use stand_in::scratch;
 
 #[cfg(test)]
