@@ -167,9 +167,9 @@ miss_line probe after text = do
   _ ← ends_at text 3
   Ok (miss_of i.0 w)
 
--- What is known of the slice of a line: 1 to 64 words, of at most 128 bits.
-pub record IsLocatedSlice (width : Width) (slice : Slice) : Type 0 where
+-- What is known of the slice that a line names: 1 to 64 words of its block's span, of at most 128 bits.
+pub record IsLocatedSlice (width : Width) (span : Span) (slice : Slice) : Type 0 where
   pub some : 1 ≤ slice.n
   pub small : slice.n ≤ 64
   pub bits : slice.n * width_bits width ≤ 128
-  pub end : slice.first + slice.n ≤ 65536
+  pub inside : slice.first + slice.n ≤ span.last + 1

@@ -107,7 +107,7 @@ fn known_slice(
     requires ordered { span.first ≤ span.last }
     requires limit { span.last < 65536 }
     ensures known { result ≡ known_slice shape set.now span number }
-    ensures slice { IfOk result (IsLocatedSlice shape.width) }
+    ensures slice { IfOk result (IsLocatedSlice shape.width span) }
 {
     let atomic = set.atomic;
     if u64::from(slice_count(atomic, span)) <= number.value {
@@ -135,7 +135,7 @@ fn slice_words(
     requires ordered { span.first ≤ span.last }
     requires limit { span.last < 65536 }
     ensures words { result ≡ slice_words shape set.now span text.now }
-    ensures slice { IfOk result (IsLocatedSlice shape.width) }
+    ensures slice { IfOk result (IsLocatedSlice shape.width span) }
 {
     match number_at(text, 3) {
         Ok(number) => known_slice(shape, set, span, number),
@@ -148,7 +148,11 @@ fn probe_of(shape: Shape, initial: u64, set: &ParamSet, slice: Slice) -> Probe
     requires initial { Fits shape.width initial }
     requires set { IsAcceptedSet shape set.now }
     requires fixed { is_transparent set.now.alg ≡ false }
-    requires slice { IsLocatedSlice shape.width slice }
+    requires limit { shape.ram ≤ 65536 }
+    requires some { 1 ≤ slice.n }
+    requires small { slice.n ≤ 64 }
+    requires bits { slice.n * width_bits shape.width ≤ 128 }
+    requires inside { slice.first + slice.n ≤ shape.ram }
     ensures probe { result ≡ probe_of shape initial set.now slice }
     ensures accepted { IsAcceptedProbe result }
 {
@@ -179,6 +183,8 @@ pub fn read_slice(
     requires sets { All (IsAcceptedSet shape) sets.now }
     ensures line { result ≡ slice_line shape initial sets.now text.now }
     ensures accepted { IfOk result IsAcceptedProbe }
+    ensures width { IfOk result (λ p. p.width ≡ shape.width) }
+    ensures inside { IfOk result (λ p. p.first + p.n ≤ shape.ram) }
 {
     keyword(text, b"slice")?;
     let set = &sets[set_number(text, sets)?];

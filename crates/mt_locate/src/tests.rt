@@ -192,3 +192,31 @@ inject tf-down 0.7
     assert!(rt; sink.bytes() == expected);
     Ok(())
 }
+
+// March C- on the words from 0 to 9, in slices of four, and Galpat on the words that the cells hold.
+fn two_sets(alloc: Global) -> Result<Vec<ParamSet>, Fail>
+    ensures { IfOk result (λ sets. All (IsAcceptedSet (record { width = Width.W8; ram = 16; flash = 0 })) sets.items) }
+{
+    let block = Block {
+        span: Span { first: 0, last: 9 },
+        policy: Policy::NonDestructive,
+        fill: 0,
+    };
+    let march = ParamSet {
+        alg: Algorithm::March(march_c_minus()),
+        background: 0,
+        atomic: 4,
+        cells: 8,
+        blocks: List::new(vec![in alloc; block]?),
+        retries: 2,
+    };
+    let transparent = ParamSet {
+        alg: Algorithm::TransparentGalpat,
+        background: 0,
+        atomic: 32,
+        cells: 32,
+        blocks: List::new(vec![in alloc; block]?),
+        retries: 2,
+    };
+    Ok(vec![in alloc; march, transparent]?)
+}
