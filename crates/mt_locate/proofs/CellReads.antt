@@ -23,21 +23,21 @@ abbrev pub Has : {X : Type 0} → List X → X → Type 0
 Has [] x = ⊥
 Has (y ∷ ys) x = (y ≡ x) ⊎ Has ys x
 
-has_left : {X : Type 0} (xs ys : List X) (x : X) → Has xs x → Has (xs ++ ys) x
+pub has_left : {X : Type 0} (xs ys : List X) (x : X) → Has xs x → Has (xs ++ ys) x
 has_left [] ys x h = absurd h
 has_left (y ∷ xs) ys x (inl e) = inl e
 has_left (y ∷ xs) ys x (inr h) = inr (has_left xs ys x h)
 
-has_right : {X : Type 0} (xs ys : List X) (x : X) → Has ys x → Has (xs ++ ys) x
+pub has_right : {X : Type 0} (xs ys : List X) (x : X) → Has ys x → Has (xs ++ ys) x
 has_right [] ys x h = h
 has_right (y ∷ xs) ys x h = inr (has_right xs ys x h)
 
-has_map : {X Y : Type 0} (f : X → Y) (xs : List X) (x : X) → Has xs x → Has (map f xs) (f x)
+pub has_map : {X Y : Type 0} (f : X → Y) (xs : List X) (x : X) → Has xs x → Has (map f xs) (f x)
 has_map f [] x h = absurd h
 has_map f (y ∷ xs) x (inl e) = inl (ap f e)
 has_map f (y ∷ xs) x (inr h) = inr (has_map f xs x h)
 
-has_flat_map : {X Y : Type 0} (f : X → List Y) (xs : List X) (x : X) (y : Y) → Has xs x → Has (f x) y → Has (flat_map f xs) y
+pub has_flat_map : {X Y : Type 0} (f : X → List Y) (xs : List X) (x : X) (y : Y) → Has xs x → Has (f x) y → Has (flat_map f xs) y
 has_flat_map f [] x y h g = absurd h
 has_flat_map f (z ∷ xs) x y (inl e) g = has_left (f z) (flat_map f xs) y (subst (λ (w : _). Has (f w) y) (sym e) g)
 has_flat_map f (z ∷ xs) x y (inr h) g = has_right (f z) (flat_map f xs) y (has_flat_map f xs x y h g)

@@ -8,4 +8,5 @@ pub mod Sound
 pub mod Culprits
 pub mod Suspicion
 pub mod LineWords
+pub mod Members
 pub mod Seen

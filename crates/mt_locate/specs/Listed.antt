@@ -89,6 +89,10 @@ faults_of width first n =
     ++ flat_map (all_seen width) (range_with_len first n)
     ++ flat_map (all_crossed first n) cell_kinds
 
+-- the list has each fault of the slice, and no other
+abbrev pub FaultsOfTheSliceAreListed : Type 0
+FaultsOfTheSliceAreListed = (width : Width) (first n : ℕ) (f : Fault) → Contains (faults_of width first n) f ↔ IsFaultOfSlice width first n f
+
 -- ---- the faults that explain
 
 -- whether two misses are one

@@ -1,7 +1,7 @@
 //! Laws of faults of a slice.
 
 ghost use Rattle.mt_locate.specs.Explanations.{MissesAreThoseOfTheMemory};
-ghost use Rattle.mt_locate.specs.Listed.{ExplainsIsTested};
+ghost use Rattle.mt_locate.specs.Listed.{ExplainsIsTested, FaultsOfTheSliceAreListed};
 ghost use Rattle.mt_locate.specs.Moved.{FaultsStayWellPlaced};
 ghost use Rattle.mt_locate.specs.Suspects.{CulpritsAreSuspects, FirstMissTellsWhatIsSeen};
 
@@ -21,6 +21,11 @@ pub fn misses_are_those_of_the_memory()
     plans_are_steady();
     faults_of_a_slice_stay_well_placed();
 }
+
+/// The list of all faults of a slice has each fault that lies inside it, and no other.
+pub fn faults_of_the_slice_are_listed()
+    ensures { FaultsOfTheSliceAreListed }
+{}
 
 /// The faults of a list that explain the misses are those of the definition.
 pub fn explaining_is_tested()

@@ -16,7 +16,7 @@ mod words;
 
 pub use explain::explains;
 pub use laws::{
-    culprits_are_suspects, explaining_is_tested, faults_of_a_slice_stay_well_placed, first_miss_tells_what_is_seen,
+    culprits_are_suspects, explaining_is_tested, faults_of_a_slice_stay_well_placed, faults_of_the_slice_are_listed, first_miss_tells_what_is_seen,
     misses_are_those_of_the_memory,
 };
 pub use list::list_faults;
