@@ -1,17 +1,16 @@
 -- Every algorithm reads each cell for each of the two words.
-use Rattle.std.proofs.Common.{◌≡◌, ℕ, zero, suc, ◌+◌, ◌<◌, ◌≤◌, Bool, true, false, not, ◌&&◌, ◌||◌, List, [], ◌∷◌, ◌++◌, map, reverse, length, get_or, refl, sym, ap, ◌∙◌, subst, arith, inl, inr}
-use Rattle.std.specs.Prelude.{◌⊎◌, ◌==◌, ◌≢◌, filter}
+use Rattle.std.proofs.Common.{◌≡◌, ℕ, zero, suc, ◌<◌, Bool, true, false, not, List, [], ◌∷◌, ◌++◌, map, reverse, length, get_or, refl, sym, ap, subst, arith, inl, inr}
+use Rattle.std.specs.Prelude.{◌⊎◌, ◌≢◌}
 use Rattle.std.proofs.lemmas.Bool.{cases_eq}
-use Rattle.std.specs.List.{flat_map, list_any}
+use Rattle.std.specs.List.{flat_map}
 use Rattle.std.proofs.lemmas.List.{reverse-append}
-use mathlib.Core.Bool.{beq}
 use Rattle.mt_fault.specs.Faulty.{is_odd}
 use Rattle.mt_march.specs.declared.march.Order.{Order}
 use Rattle.mt_march.specs.declared.march.Order.TheVariants.{Up, Down, Either}
 use Rattle.mt_march.specs.declared.march.Op.{Op}
 use Rattle.mt_march.specs.declared.march.Op.TheVariants.{R0, R1, W0, W1}
 use Rattle.mt_march.specs.declared.march.Element.{Element}
-use Rattle.mt_march.specs.Accepted.{operations, reads, writes, is_one}
+use Rattle.mt_march.specs.Accepted.{operations, reads}
 use Rattle.mt_plan.specs.declared.algorithm.Algorithm.{Algorithm}
 use Rattle.mt_plan.specs.declared.algorithm.Algorithm.TheVariants.{Checkerboard, March as Marches, WalkPath, Galpat, TransparentGalpat}
 use Rattle.mt_plan.specs.declared.algorithm.Step.{Step}
@@ -106,12 +105,16 @@ checkerboard_reads js j value h = of (is_odd j) value refl
   where
     first : List Step
     first = map (λ k. step k (write_act (is_odd k))) js ++ map (λ k. step k (read_act (is_odd k))) js
+
     second : List Step
     second = map (λ k. step k (write_act (not (is_odd k)))) js ++ map (λ k. step k (read_act (not (is_odd k)))) js
+
     plainly : Has first (step j (read_act (is_odd j)))
     plainly = has_right (map (λ k. step k (write_act (is_odd k))) js) (map (λ k. step k (read_act (is_odd k))) js) (step j (read_act (is_odd j))) (has_map (λ k. step k (read_act (is_odd k))) js j h)
+
     flipped : Has second (step j (read_act (not (is_odd j))))
     flipped = has_right (map (λ k. step k (write_act (not (is_odd k)))) js) (map (λ k. step k (read_act (not (is_odd k)))) js) (step j (read_act (not (is_odd j)))) (has_map (λ k. step k (read_act (not (is_odd k)))) js j h)
+
     of : (odd value : Bool) → is_odd j ≡ odd → Has (first ++ second) (step j (read_act value))
     of true true e = has_left first second (step j (read_act true)) (subst (λ (b : Bool). Has first (step j (read_act b))) e plainly)
     of true false e = has_right first second (step j (read_act false)) (subst (λ (b : Bool). Has second (step j (read_act (not b)))) e flipped)

@@ -1,18 +1,18 @@
 -- The first miss is one of a read that the fault may disturb.
-use Rattle.std.proofs.Common.{◌≡◌, ℕ, zero, suc, ◌+◌, ◌-◌, ◌^◌, ◌<◌, ◌≤◌, ◌==◌, eqb, Bool, true, false, not, List, [], ◌∷◌, ◌++◌, map, reverse, take, length, get_or, replicate, Option, Some, None, refl, sym, ap, ◌∙◌, subst, arith, inl, inr, append-nil}
+use Rattle.std.proofs.Common.{◌≡◌, ℕ, zero, suc, ◌+◌, ◌-◌, ◌<◌, ◌≤◌, eqb, Bool, true, false, not, List, [], ◌∷◌, ◌++◌, map, reverse, take, length, get_or, replicate, Option, Some, None, refl, sym, ap, ◌∙◌, arith, inl, inr, append-nil}
 use Rattle.std.specs.Prelude.{◌≢◌, if◌then◌else◌, slice_get, IsSomeAnd}
 use Rattle.std.specs.Bool.{then_some}
-use Rattle.std.specs.List.{range_with_len, cons_option}
-use Rattle.std.proofs.lemmas.Bool.{eq-eqb, eqb-true, ne_eqb, cases_eq}
+use Rattle.std.specs.List.{cons_option}
+use Rattle.std.proofs.lemmas.Bool.{eq-eqb, ne_eqb, cases_eq}
 use Rattle.std.proofs.lemmas.Option.{slice_get-get_or}
 use Rattle.mt_word.specs.declared.Width.{Width}
 use Rattle.mt_word.specs.declared.Width.TheVariants.{W8, W16, W32, W64}
-use Rattle.mt_word.specs.Word.{Fits, width_bits, complement_of}
+use Rattle.mt_word.specs.Word.{Fits, complement_of}
 use Rattle.mt_fault.specs.declared.fault.Fault.{Fault}
 use Rattle.mt_fault.specs.declared.fault.Fault.TheVariants.{NoCell}
 use Rattle.mt_fault.specs.History.{History, plain}
 use Rattle.mt_fault.specs.Faulty.{answer, answer_under, stored_under}
-use Rattle.mt_fault.specs.Items.{Item, Look, Check, Store, place, access_of, history, agrees}
+use Rattle.mt_fault.specs.Items.{Item, Look, place, access_of, history, agrees}
 use Rattle.mt_fault.specs.Memory.{first_words}
 use Rattle.mt_plan.specs.declared.algorithm.Act.{Act}
 use Rattle.mt_plan.specs.declared.algorithm.Act.TheVariants.{WritePlain, WriteFlipped, ReadPlain, ReadFlipped}
@@ -24,13 +24,11 @@ use Rattle.mt_plan.specs.Steady.{PlansAreSteady}
 use Rattle.mt_decoder.specs.Misses.{accesses, is_miss}
 use Rattle.mt_locate.specs.declared.probe.Probe.{Probe}
 use Rattle.mt_locate.specs.declared.probe.Miss.{Miss}
-use Rattle.mt_locate.specs.Probes.{IsAcceptedProbe}
-use Rattle.mt_locate.specs.Misses.{answer_at, miss_at, misses_of}
-use Rattle.mt_locate.specs.Moved.{moved_down, IsFaultOfSlice}
-use Rattle.mt_locate.specs.Explanations.{accesses_of, misses_under, Explains}
-use Rattle.mt_locate.specs.Suspects.{may_go_wrong, FirstMissTellsWhatIsSeen}
+use Rattle.mt_locate.specs.Misses.{answer_at, misses_of}
+use Rattle.mt_locate.specs.Explanations.{accesses_of, misses_under}
+use Rattle.mt_locate.specs.Suspects.{FirstMissTellsWhatIsSeen}
 use Rattle.mt_locate.proofs.Spans.{miss, misses_from, length-accesses, access_at, place_of}
-use Rattle.mt_locate.proofs.Sound.{word_for, item_at, found, sound_answer}
+use Rattle.mt_locate.proofs.Sound.{may_go_wrong, word_for, item_at, found, sound_answer}
 use Rattle.mt_locate.proofs.CellReads.{each_is_read, has_at}
 
 -- ---- the accesses of a probe, without an offset
@@ -166,6 +164,7 @@ missed_read probe addr seen words value i apart l at =
   where
     sees : answer (Some (NoCell addr seen)) words (past probe i) addr ≡ seen
     sees = seen_answer addr seen addr words (past probe i) (eq-eqb addr addr refl)
+
     of : (v : Bool) → seen ≢ word_for probe.width probe.background v → not (agrees (Some (NoCell addr seen)) words (past probe i) (act_on probe.width addr probe.background (read_act v))) ≡ true
     of true a = ap not (ne_eqb _ (complement_of probe.width probe.background) (λ e. a (sym sees ∙ e)))
     of false a = ap not (ne_eqb _ probe.background (λ e. a (sym sees ∙ e)))
@@ -176,10 +175,13 @@ first_miss_tells steady probe misses addr seen accepted inside explains = of mis
   where
     cell : ℕ
     cell = addr - probe.first
+
     words : List ℕ
     words = first_words (NoCell cell seen) (replicate probe.n probe.initial)
+
     below : cell < probe.n
     below = let b = inside.inside.0.below in let f = inside.inside.0.from in omega (arith, b, f)
+
     some : misses_from (Some (NoCell cell seen)) words (accesses_of probe) 0 (length (accesses_of probe)) ≡ [] → ⊥
     some e =
         let v = other_value probe.width probe.background seen accepted.background in
@@ -187,10 +189,12 @@ first_miss_tells steady probe misses addr seen accepted inside explains = of mis
         let l : r.0 < length (steps_of probe.alg probe.n) = r.1 in
         some_miss (Some (NoCell cell seen)) words (accesses_of probe) 0 (length (accesses_of probe)) r.0 (omega arith) (omega (arith, l, length-accesses probe))
         (missed_read probe cell seen words v.0 r.0 v.1 l r.2) e
+
     culprit : (m : Miss) → IsFirst (Some (NoCell cell seen)) words (accesses_of probe) 0 (length (accesses_of probe)) m → m.index < length (steps_of probe.alg probe.n)
         → (b : Bool) → eqb ((step_of probe m.index).cell) cell ≡ b → eqb ((step_of probe m.index).cell) cell ≡ true
     culprit m first l true is = is
     culprit m first l false is = let e : true ≡ false = sym first.is ∙ no_miss steady probe (NoCell cell seen) words m.index accepted.march l is in absurd (cc)
+
     of : (ms : List Miss) → misses_under probe (NoCell addr seen) ≡ ms → IsSomeAnd (slice_get ms 0) (λ m. m.word ≡ seen)
     of [] e = absurd (some e)
     of (m ∷ more) e =

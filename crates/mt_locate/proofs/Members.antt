@@ -1,6 +1,6 @@
 -- The list of all faults of a slice has each of them, and no other.
-use Rattle.std.proofs.Common.{◌≡◌, ℕ, zero, suc, ◌+◌, ◌-◌, ◌*◌, ◌/◌, ◌%◌, ◌^◌, ◌<◌, ◌≤◌, ◌==◌, eqb, Bool, true, false, List, [], ◌∷◌, ◌++◌, map, length, get_or, refl, sym, ap, ◌∙◌, subst, arith, inl, inr}
-use Rattle.std.specs.Prelude.{◌↔◌, ◌⊎◌, ◌≢◌, if◌then◌else◌, Contains}
+use Rattle.std.proofs.Common.{◌≡◌, ℕ, zero, suc, ◌+◌, ◌-◌, ◌*◌, ◌/◌, ◌%◌, ◌^◌, ◌<◌, ◌≤◌, Bool, true, false, List, [], ◌∷◌, ◌++◌, map, length, get_or, refl, sym, ap, ◌∙◌, subst, arith, inl, inr}
+use Rattle.std.specs.Prelude.{◌⊎◌, ◌≢◌, if◌then◌else◌, Contains}
 use Rattle.std.specs.List.{flat_map, range_with_len}
 use Rattle.std.proofs.lemmas.Bool.{eq-eqb, ne_eqb, cases_eq}
 use Rattle.std.proofs.lemmas.Nat.{mul-le}
@@ -10,7 +10,7 @@ use Rattle.mt_word.specs.Word.{width_bits}
 use Rattle.mt_fault.specs.declared.fault.Spot.{Spot}
 use Rattle.mt_fault.specs.declared.fault.Fault.{Fault}
 use Rattle.mt_fault.specs.declared.fault.Fault.TheVariants as fault
-use Rattle.mt_fault.specs.Placement.{IsWellPlaced, IsInside, IsWithin}
+use Rattle.mt_fault.specs.Placement.{IsWithin}
 use Rattle.mt_locate.specs.declared.kinds.OfBit.{OfBit}
 use Rattle.mt_locate.specs.declared.kinds.OfBit.TheVariants.{StuckAt, CannotRise, CannotFall}
 use Rattle.mt_locate.specs.declared.kinds.Coupling.{Coupling}

@@ -1,6 +1,6 @@
 -- A word without a cell has one word to be seen.
-use Rattle.std.proofs.Common.{◌≡◌, ℕ, zero, suc, ◌+◌, ◌^◌, ◌<◌, ◌≤◌, Bool, true, false, List, [], ◌∷◌, map, Option, Some, None, refl, sym, ap, ◌∙◌, subst, arith, inl, inr}
-use Rattle.std.specs.Prelude.{filter, if◌then◌else◌, ◌≢◌, ◌⊎◌, slice_get, IsSomeAnd}
+use Rattle.std.proofs.Common.{◌≡◌, ℕ, zero, suc, ◌+◌, ◌^◌, ◌<◌, ◌≤◌, Bool, true, false, List, [], ◌∷◌, map, Option, Some, None, refl, sym, ap, ◌∙◌, arith, inl, inr}
+use Rattle.std.specs.Prelude.{filter, if◌then◌else◌, ◌≢◌, slice_get, IsSomeAnd}
 use Rattle.std.specs.List.{range_with_len}
 use Rattle.std.proofs.lemmas.Bool.{cases_eq}
 use Rattle.mt_word.specs.Word.{Fits, width_bits}
@@ -44,6 +44,7 @@ only_of test f w lo (suc n) only h l = elim (cases_eq lo w) [
     of : (b : Bool) → (b ≡ true → ⊥) → b ≡ false
     of true never = absurd (never refl)
     of false never = refl
+
     past : (a b : ℕ) → a ≤ b → a ≢ b → a + 1 ≤ b
     past a b p q = omega (arith, p, q)
 

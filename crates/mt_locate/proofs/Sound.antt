@@ -1,28 +1,36 @@
 -- Reads that a fault does not disturb answer what they are to answer.
-use Rattle.std.proofs.Common.{◌≡◌, ℕ, zero, suc, ◌+◌, ◌-◌, ◌^◌, ◌<◌, ◌≤◌, ◌==◌, eqb, Bool, true, false, not, cond, ◌&&◌, ◌||◌, List, [], ◌∷◌, ◌++◌, map, reverse, take, length, get_or, replicate, Option, Some, None, refl, sym, ap, ◌∙◌, subst, arith, inl, inr}
-use Rattle.std.specs.Prelude.{◌≢◌, ◌⊎◌, if◌then◌else◌, filter_map, slice_get, IsSomeAnd}
-use Rattle.std.specs.Bool.{then_some}
-use Rattle.std.specs.List.{AllByRecursion, range_with_len, cons_option}
-use Rattle.std.proofs.lemmas.Bool.{eq-eqb, eqb-true, ne_eqb, cases_eq}
-use Rattle.std.proofs.lemmas.List.{append_assoc, reverse-append, length-map}
-use mathlib.Core.Bool.{beq}
+use Rattle.std.proofs.Common.{◌≡◌, ℕ, zero, suc, ◌<◌, ◌==◌, eqb, Bool, true, false, cond, ◌&&◌, ◌||◌, List, [], ◌∷◌, ◌++◌, map, reverse, take, length, get_or, Option, Some, None, refl, sym, ap, ◌∙◌, subst, arith, inl, inr}
+use Rattle.std.specs.Prelude.{◌≢◌}
+use Rattle.std.specs.List.{AllByRecursion}
+use Rattle.std.proofs.lemmas.Bool.{eq-eqb, ne_eqb, cases_eq}
+use Rattle.std.proofs.lemmas.List.{append_assoc, reverse-append}
 use Rattle.mt_word.specs.declared.Width.{Width}
-use Rattle.mt_word.specs.declared.Width.TheVariants.{W8, W16, W32, W64}
-use Rattle.mt_word.specs.Word.{Fits, width_bits, complement_of, put_bit}
+use Rattle.mt_word.specs.Word.{complement_of, put_bit}
 use Rattle.mt_fault.specs.declared.fault.Spot.{Spot}
 use Rattle.mt_fault.specs.declared.fault.Fault.{Fault}
 use Rattle.mt_fault.specs.declared.fault.Fault.TheVariants.{StuckAt, CannotRise, CannotFall, Invert, Force, State, NoCell, Also, Instead}
 use Rattle.mt_fault.specs.History.{Access, Read, Write, History, plain}
 use Rattle.mt_fault.specs.Faulty.{with_victim, rerouted, cells_of, moved, stored_under, answer_under, answer}
-use Rattle.mt_fault.specs.Items.{Item, Look, Check, Store, place, access_of, history, agrees}
+use Rattle.mt_fault.specs.Items.{Item, access_of}
 use Rattle.mt_march.specs.Accepted.{wrote}
 use Rattle.mt_plan.specs.declared.algorithm.Act.{Act}
 use Rattle.mt_plan.specs.declared.algorithm.Act.TheVariants.{WritePlain, WriteFlipped, ReadPlain, ReadFlipped}
 use Rattle.mt_plan.specs.declared.algorithm.Step.{Step}
 use Rattle.mt_plan.specs.Lists.{is_write, is_flipped}
-use Rattle.mt_plan.specs.Accesses.{act_on, item_of}
-use Rattle.mt_plan.specs.Steady.{steady, IsSteady}
-use Rattle.mt_locate.specs.Suspects.{may_go_wrong}
+use Rattle.mt_plan.specs.Accesses.{act_on}
+use Rattle.mt_plan.specs.Steady.{steady}
+
+-- whether a read of a word may go wrong under a fault
+abbrev pub may_go_wrong : Fault → ℕ → Bool
+may_go_wrong (StuckAt vic value) a = a == vic.word
+may_go_wrong (CannotRise vic) a = a == vic.word
+may_go_wrong (CannotFall vic) a = a == vic.word
+may_go_wrong (Invert agg rise vic) a = a == vic.word
+may_go_wrong (Force agg rise vic value) a = a == vic.word
+may_go_wrong (State agg holds vic value) a = a == vic.word
+may_go_wrong (NoCell addr seen) a = a == addr
+may_go_wrong (Also addr other wired_and) a = a == addr || a == other
+may_go_wrong (Instead addr other) a = a == addr || a == other
 
 -- ---- words that no cell is lost or won for
 
@@ -162,14 +170,17 @@ goes width back c first t more written h e k = elim (cases_eq t.cell c) [
   where
     store : (d x : ℕ) → d ≡ c → plain first (Write d x ∷ h) c ≡ x
     store d x same = ap (λ (b : Bool). cond b x (plain first h c)) (eq-eqb c d (sym same))
+
     other : (d x : ℕ) → c ≢ d → plain first (Write d x ∷ h) c ≡ plain first h c
     other d x apart = ap (λ (b : Bool). cond b x (plain first h c)) (ne_eqb c d apart)
+
     here : (act : Act) (d : ℕ) → d ≡ c → cond (is_write act) (steady c (Some (is_flipped act)) more) (wrote written (is_flipped act) && steady c written more) ≡ true
         → Goes width back c first (record { cell = d; act = act }) more h
     here WritePlain d same f = record { written = Some false; steady = f; knows = store d back same }
     here WriteFlipped d same f = record { written = Some true; steady = f; knows = store d (complement_of width back) same }
     here ReadPlain d same f = record { written = written; steady = (and_both (wrote written false) (steady c written more) f).1; knows = k }
     here ReadFlipped d same f = record { written = written; steady = (and_both (wrote written true) (steady c written more) f).1; knows = k }
+
     there : (act : Act) (d : ℕ) → c ≢ d → steady c written more ≡ true → Goes width back c first (record { cell = d; act = act }) more h
     there WritePlain d apart f = record { written = written; steady = f; knows = subst (Knows width back written) (sym (other d back apart)) k }
     there WriteFlipped d apart f = record { written = written; steady = f; knows = subst (Knows width back written) (sym (other d (complement_of width back) apart)) k }

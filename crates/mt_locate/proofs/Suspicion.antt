@@ -1,17 +1,17 @@
 -- A fault that explains the misses may have made the read of the first one answer so.
-use Rattle.std.proofs.Common.{◌≡◌, ℕ, ◌+◌, ◌-◌, ◌<◌, ◌≤◌, ◌==◌, eqb, Bool, true, false, not, ◌&&◌, ◌||◌, List, [], ◌∷◌, length, get_or, replicate, Option, Some, None, refl, sym, ap, ◌∙◌, subst, arith, inl, inr}
+use Rattle.std.proofs.Common.{◌≡◌, ℕ, ◌+◌, ◌-◌, ◌<◌, ◌≤◌, ◌==◌, eqb, Bool, true, false, not, ◌&&◌, ◌||◌, List, [], ◌∷◌, length, replicate, Some, None, refl, sym, ap, ◌∙◌, arith}
 use Rattle.std.specs.Prelude.{◌≢◌, if◌then◌else◌, slice_get}
 use Rattle.std.proofs.lemmas.List.{get_or_past}
-use Rattle.std.proofs.lemmas.Bool.{eq-eqb, eqb-true, ne_eqb}
+use Rattle.std.proofs.lemmas.Bool.{eq-eqb, eqb-true}
 use Rattle.mt_word.specs.declared.Width.{Width}
-use Rattle.mt_word.specs.Word.{Fits, has_bit, put_bit, complement_of, width_bits}
+use Rattle.mt_word.specs.Word.{has_bit, put_bit, complement_of}
 use Rattle.mt_fault.specs.declared.fault.Spot.{Spot}
 use Rattle.mt_fault.specs.declared.fault.Fault.{Fault}
 use Rattle.mt_fault.specs.declared.fault.Fault.TheVariants.{StuckAt, CannotRise, CannotFall, Invert, Force, State, NoCell, Also, Instead}
 use Rattle.mt_fault.specs.History.{History, plain}
 use Rattle.mt_fault.specs.Placement.{IsInside}
 use Rattle.mt_fault.specs.Faulty.{with_victim, answer, answer_under, stored_under}
-use Rattle.mt_fault.specs.Items.{Item, Look, Check, Store, place, agrees}
+use Rattle.mt_fault.specs.Items.{Item, Look, place, agrees}
 use Rattle.mt_fault.specs.Memory.{first_words}
 use Rattle.mt_plan.specs.declared.algorithm.Act.{Act}
 use Rattle.mt_plan.specs.declared.algorithm.Act.TheVariants.{WritePlain, WriteFlipped, ReadPlain, ReadFlipped}
@@ -20,19 +20,15 @@ use Rattle.mt_plan.specs.Lists.{is_write, is_flipped}
 use Rattle.mt_plan.specs.Accesses.{act_on}
 use Rattle.mt_plan.specs.Plan.{steps_of}
 use Rattle.mt_plan.specs.Steady.{PlansAreSteady}
-use Rattle.mt_decoder.specs.Misses.{is_miss}
 use Rattle.mt_locate.specs.declared.probe.Probe.{Probe}
 use Rattle.mt_locate.specs.declared.probe.Miss.{Miss}
-use Rattle.mt_locate.specs.declared.evidence.CheckedRead.{CheckedRead}
-use Rattle.mt_locate.specs.declared.evidence.Evidence.{Evidence}
-use Rattle.mt_locate.specs.Probes.{IsAcceptedProbe}
-use Rattle.mt_locate.specs.Misses.{answer_at, misses_of}
+use Rattle.mt_locate.specs.Misses.{misses_of}
 use Rattle.mt_locate.specs.Moved.{moved_down, spot_down}
-use Rattle.mt_locate.specs.Explanations.{accesses_of, misses_under}
+use Rattle.mt_locate.specs.Explanations.{accesses_of}
 use Rattle.mt_locate.specs.declared.evidence.Evidence.TheVariants.{NoMiss}
-use Rattle.mt_locate.specs.Suspects.{may_go_wrong, checked, checked_at, told_by, evidence_of, is_flipped_bit, may_answer, suspect, CulpritsAreSuspects}
+use Rattle.mt_locate.specs.Suspects.{checked, checked_at, told_by, evidence_of, is_flipped_bit, may_answer, suspect, CulpritsAreSuspects}
 use Rattle.mt_locate.proofs.Spans.{length-accesses, place_of}
-use Rattle.mt_locate.proofs.Sound.{word_for}
+use Rattle.mt_locate.proofs.Sound.{may_go_wrong, word_for}
 use Rattle.mt_locate.proofs.Culprits.{IsFirst, first_is, no_miss, item_is, expected, step_of, past}
 
 -- a bit that is put where it is changes nothing
@@ -69,6 +65,7 @@ either_up first one other cell f g e = of (eqb cell (one - first)) refl e
     or_true : (a b : Bool) → b ≡ true → (a || b) ≡ true
     or_true true b q = refl
     or_true false b q = q
+
     of : (t : Bool) → eqb cell (one - first) ≡ t → (t || eqb cell (other - first)) ≡ true → (one == first + cell || other == first + cell) ≡ true
     of true is e = ap (λ (t : Bool). t || (other == first + cell)) (word_up first one cell f is)
     of false is e = or_true (one == first + cell) (other == first + cell) (word_up first other cell g e)
@@ -116,24 +113,30 @@ culprits same steady probe (m ∷ more) fault accepted inside explains =
     ∙ ap (λ (x : Item). answer (Some low) words (past probe m.index) (place x)) (item_is probe m.index l)
     ∙ ap (answer (Some low) words (past probe m.index)) (place_of probe.width t.cell probe.background t.act))
     (λ word reads is differs. may same probe.first probe.n fault words (past probe m.index) t.cell word m.word inside.inside here
-      (expected steady probe words m.index accepted.march l reads ∙ sym is)
-      (first.answered
-      ∙ ap (λ (x : Item). answer (Some low) words (past probe m.index) (place x)) (item_is probe m.index l)
-      ∙ ap (answer (Some low) words (past probe m.index)) (place_of probe.width t.cell probe.background t.act)) differs)
+    (expected steady probe words m.index accepted.march l reads ∙ sym is)
+    (first.answered
+    ∙ ap (λ (x : Item). answer (Some low) words (past probe m.index) (place x)) (item_is probe m.index l)
+    ∙ ap (answer (Some low) words (past probe m.index)) (place_of probe.width t.cell probe.background t.act)) differs)
   where
     low : Fault
     low = moved_down probe.first fault
+
     words : List ℕ
     words = first_words low (replicate probe.n probe.initial)
+
     first : IsFirst (Some low) words (accesses_of probe) 0 (length (accesses_of probe)) m
     first = first_is (Some low) words (accesses_of probe) 0 (length (accesses_of probe)) m more explains
+
     l : m.index < length (steps_of probe.alg probe.n)
     l = let w = first.within in omega (arith, w, length-accesses probe)
+
     t : Step
     t = step_of probe m.index
+
     goes : (b : Bool) → may_go_wrong low t.cell ≡ b → may_go_wrong low t.cell ≡ true
     goes true is = is
     goes false is = let e : true ≡ false = sym first.is ∙ no_miss steady probe low words m.index accepted.march l is in absurd (cc)
+
     here : may_go_wrong low t.cell ≡ true
     here = goes (may_go_wrong low t.cell) refl
 

@@ -1,10 +1,8 @@
 -- The lines of a fault location: a slice, and what was missed there.
-use Rattle.std.specs.Prelude.{◌≡◌, ℕ, ◌+◌, ◌-◌, ◌*◌, ◌^◌, ◌≤◌, ◌==◌, ◌||◌, nat_lt, nat_le, not, codes, min, Bool, true, false, if◌then◌else◌, List, [], ◌∷◌, length, slice_get, Option, Some, None, Result, Ok, Err}
+use Rattle.std.specs.Prelude.{ℕ, ◌+◌, ◌*◌, ◌^◌, ◌==◌, nat_lt, nat_le, not, codes, Bool, false, if◌then◌else◌, List, length, slice_get, Option, Some, None, Result, Ok, Err}
 use Rattle.std.specs.Str.{bytes_eq}
-use Rattle.mt_word.specs.declared.Width.{Width}
 use Rattle.mt_word.specs.Word.{width_bits}
 use Rattle.mt_hex.specs.Hex.{hex_of}
-use Rattle.mt_plan.specs.Plan.{steps_of}
 use Rattle.mt_port.specs.declared.board.Shape.{Shape}
 use Rattle.mt_seq.specs.declared.sequence.Slice.{Slice}
 use Rattle.mt_seq.specs.Sequence.{is_transparent}
@@ -166,10 +164,3 @@ miss_line probe after text = do
   w ← answered_word probe i.1 text
   _ ← ends_at text 3
   Ok (miss_of i.0 w)
-
--- What is known of the slice that a line names: 1 to 64 words of its block's span, of at most 128 bits.
-pub record IsLocatedSlice (width : Width) (span : Span) (slice : Slice) : Type 0 where
-  pub some : 1 ≤ slice.n
-  pub small : slice.n ≤ 64
-  pub bits : slice.n * width_bits width ≤ 128
-  pub inside : slice.first + slice.n ≤ span.last + 1

@@ -21,18 +21,6 @@ FirstMissTellsWhatIsSeen =
     → IsAcceptedProbe probe → IsFaultOfSlice probe.width probe.first probe.n (NoCell addr seen)
     → Explains probe misses (NoCell addr seen) → IsSomeAnd (slice_get misses 0) (λ m. m.word ≡ seen)
 
--- whether a read of a word may go wrong under a fault
-abbrev pub may_go_wrong : Fault → ℕ → Bool
-may_go_wrong (StuckAt vic value) a = a == vic.word
-may_go_wrong (CannotRise vic) a = a == vic.word
-may_go_wrong (CannotFall vic) a = a == vic.word
-may_go_wrong (Invert agg rise vic) a = a == vic.word
-may_go_wrong (Force agg rise vic value) a = a == vic.word
-may_go_wrong (State agg holds vic value) a = a == vic.word
-may_go_wrong (NoCell addr seen) a = a == addr
-may_go_wrong (Also addr other wired_and) a = a == addr || a == other
-may_go_wrong (Instead addr other) a = a == addr || a == other
-
 -- the checked read that an access is, if it is one
 abbrev pub checked : Item → Option CheckedRead
 checked (Look a) = None

@@ -68,7 +68,12 @@ pub fn checked_at(probe: &Probe, index: u32) -> Option<CheckedRead>
         return None;
     }
     let step = step_at(&probe.alg, n, index);
-    checked(probe.width, probe.background, u32::from(step.cell), step.act)
+    checked(
+        probe.width,
+        probe.background,
+        u32::from(step.cell),
+        step.act,
+    )
 }
 
 /// What a miss tells.

@@ -15,17 +15,11 @@ pub enum OfBit {
 #[derive(Clone, Copy)]
 pub enum Coupling {
     /// The aggressor's change inverts the victim.
-    Invert {
-        rise: bool,
-    },
+    Invert { rise: bool },
     /// The aggressor's change makes the victim 0 or 1.
-    Force {
-        rise: bool,
-    },
+    Force { rise: bool },
     /// The aggressor's state makes the victim 0 or 1.
-    State {
-        holds: bool,
-    },
+    State { holds: bool },
 }
 
 /// A kind of faults of the address decoder with two cells.

@@ -191,7 +191,7 @@ fn list_one<K: Sink>(
     requires expected { ExpectedFits syndrome.now.probe.now.width syndrome.now.evidence }
     requires inside { IsFaultOfSlice syndrome.now.probe.now.width syndrome.now.probe.now.first syndrome.now.probe.now.n fault }
     ensures lists { Lists syndrome.now.probe.now syndrome.now.misses.now (fault ∷ [])
-      (change (K.held sink.old) (K.held sink.new) (K.faults sink.old) (K.faults sink.new)) result }
+        (change (K.held sink.old) (K.held sink.new) (K.faults sink.old) (K.faults sink.new)) result }
     ensures few { IfOk result (λ n. n ≤ 1) }
     ensures after { cells.new ≡ scratch_of syndrome.now.probe.now }
 {
@@ -221,7 +221,7 @@ fn list_two<K: Sink>(
     requires one { IsFaultOfSlice syndrome.now.probe.now.width syndrome.now.probe.now.first syndrome.now.probe.now.n one }
     requires other { IsFaultOfSlice syndrome.now.probe.now.width syndrome.now.probe.now.first syndrome.now.probe.now.n other }
     ensures lists { Lists syndrome.now.probe.now syndrome.now.misses.now (one ∷ other ∷ [])
-      (change (K.held sink.old) (K.held sink.new) (K.faults sink.old) (K.faults sink.new)) result }
+        (change (K.held sink.old) (K.held sink.new) (K.faults sink.old) (K.faults sink.new)) result }
     ensures few { IfOk result (λ n. n ≤ 2) }
     ensures after { cells.new ≡ scratch_of syndrome.now.probe.now }
 {
@@ -243,7 +243,7 @@ fn list_few<K: Sink>(
     requires expected { ExpectedFits syndrome.now.probe.now.width syndrome.now.evidence }
     requires inside { AllByRecursion (IsFaultOfSlice syndrome.now.probe.now.width syndrome.now.probe.now.first syndrome.now.probe.now.n) (faults_in faults) }
     ensures lists { Lists syndrome.now.probe.now syndrome.now.misses.now (faults_in faults)
-      (change (K.held sink.old) (K.held sink.new) (K.faults sink.old) (K.faults sink.new)) result }
+        (change (K.held sink.old) (K.held sink.new) (K.faults sink.old) (K.faults sink.new)) result }
     ensures few { IfOk result (λ n. n ≤ 2) }
     ensures after { cells.new ≡ scratch_of syndrome.now.probe.now }
 {
@@ -266,8 +266,8 @@ fn list_on_bit<K: Sink>(
     requires told { syndrome.now.evidence ≡ evidence_of syndrome.now.probe.now syndrome.now.misses.now }
     requires expected { ExpectedFits syndrome.now.probe.now.width syndrome.now.evidence }
     ensures lists { Lists syndrome.now.probe.now syndrome.now.misses.now
-      (all_on_bit syndrome.now.probe.now.width syndrome.now.probe.now.first syndrome.now.probe.now.n kind)
-      (change (K.held sink.old) (K.held sink.new) (K.faults sink.old) (K.faults sink.new)) result }
+        (all_on_bit syndrome.now.probe.now.width syndrome.now.probe.now.first syndrome.now.probe.now.n kind)
+        (change (K.held sink.old) (K.held sink.new) (K.faults sink.old) (K.faults sink.new)) result }
     ensures few { IfOk result (λ n. n ≤ 256) }
     ensures after { cells.new ≡ scratch_of syndrome.now.probe.now }
 {
@@ -293,15 +293,20 @@ fn list_victims<K: Sink>(
     requires expected { ExpectedFits syndrome.now.probe.now.width syndrome.now.evidence }
     requires agg { IsSpotOfSlice syndrome.now.probe.now agg }
     ensures lists { Lists syndrome.now.probe.now syndrome.now.misses.now
-      (flat_map (coupled kind agg) (spots syndrome.now.probe.now.width syndrome.now.probe.now.first syndrome.now.probe.now.n))
-      (change (K.held sink.old) (K.held sink.new) (K.faults sink.old) (K.faults sink.new)) result }
+        (flat_map (coupled kind agg) (spots syndrome.now.probe.now.width syndrome.now.probe.now.first syndrome.now.probe.now.n))
+        (change (K.held sink.old) (K.held sink.new) (K.faults sink.old) (K.faults sink.new)) result }
     ensures few { IfOk result (λ n. n ≤ 256) }
     ensures after { cells.new ≡ scratch_of syndrome.now.probe.now }
 {
     let mut found = 0;
     for k in 0..bit_count(syndrome.probe) {
         let vic = spot_at(syndrome.probe, k);
-        found += list_few(cells, syndrome, coupled(syndrome.probe, kind, agg, vic), sink)?;
+        found += list_few(
+            cells,
+            syndrome,
+            coupled(syndrome.probe, kind, agg, vic),
+            sink,
+        )?;
     }
     Ok(found)
 }
@@ -318,8 +323,8 @@ fn list_coupled<K: Sink>(
     requires told { syndrome.now.evidence ≡ evidence_of syndrome.now.probe.now syndrome.now.misses.now }
     requires expected { ExpectedFits syndrome.now.probe.now.width syndrome.now.evidence }
     ensures lists { Lists syndrome.now.probe.now syndrome.now.misses.now
-      (all_coupled syndrome.now.probe.now.width syndrome.now.probe.now.first syndrome.now.probe.now.n kind)
-      (change (K.held sink.old) (K.held sink.new) (K.faults sink.old) (K.faults sink.new)) result }
+        (all_coupled syndrome.now.probe.now.width syndrome.now.probe.now.first syndrome.now.probe.now.n kind)
+        (change (K.held sink.old) (K.held sink.new) (K.faults sink.old) (K.faults sink.new)) result }
     ensures few { IfOk result (λ n. n ≤ 32768) }
     ensures after { cells.new ≡ scratch_of syndrome.now.probe.now }
 {
@@ -345,15 +350,20 @@ fn list_others<K: Sink>(
     requires expected { ExpectedFits syndrome.now.probe.now.width syndrome.now.evidence }
     requires addr { IsWithin syndrome.now.probe.now.first syndrome.now.probe.now.n addr }
     ensures lists { Lists syndrome.now.probe.now syndrome.now.misses.now
-      (flat_map (crossed kind addr) (range_with_len syndrome.now.probe.now.first syndrome.now.probe.now.n))
-      (change (K.held sink.old) (K.held sink.new) (K.faults sink.old) (K.faults sink.new)) result }
+        (flat_map (crossed kind addr) (range_with_len syndrome.now.probe.now.first syndrome.now.probe.now.n))
+        (change (K.held sink.old) (K.held sink.new) (K.faults sink.old) (K.faults sink.new)) result }
     ensures few { IfOk result (λ n. n ≤ 128) }
     ensures after { cells.new ≡ scratch_of syndrome.now.probe.now }
 {
     let mut found = 0;
     for k in 0..u32::from(syndrome.probe.n) {
         let other = syndrome.probe.first + k;
-        found += list_few(cells, syndrome, crossed(syndrome.probe, kind, addr, other), sink)?;
+        found += list_few(
+            cells,
+            syndrome,
+            crossed(syndrome.probe, kind, addr, other),
+            sink,
+        )?;
     }
     Ok(found)
 }
@@ -370,8 +380,8 @@ fn list_crossed<K: Sink>(
     requires told { syndrome.now.evidence ≡ evidence_of syndrome.now.probe.now syndrome.now.misses.now }
     requires expected { ExpectedFits syndrome.now.probe.now.width syndrome.now.evidence }
     ensures lists { Lists syndrome.now.probe.now syndrome.now.misses.now
-      (all_crossed syndrome.now.probe.now.first syndrome.now.probe.now.n kind)
-      (change (K.held sink.old) (K.held sink.new) (K.faults sink.old) (K.faults sink.new)) result }
+        (all_crossed syndrome.now.probe.now.first syndrome.now.probe.now.n kind)
+        (change (K.held sink.old) (K.held sink.new) (K.faults sink.old) (K.faults sink.new)) result }
     ensures few { IfOk result (λ n. n ≤ 8192) }
     ensures after { cells.new ≡ scratch_of syndrome.now.probe.now }
 {
@@ -399,8 +409,8 @@ fn list_seen<K: Sink>(
     requires expected { ExpectedFits syndrome.now.probe.now.width syndrome.now.evidence }
     requires addr { IsWithin syndrome.now.probe.now.first syndrome.now.probe.now.n addr }
     ensures lists { Lists syndrome.now.probe.now syndrome.now.misses.now
-      (all_seen syndrome.now.probe.now.width addr)
-      (change (K.held sink.old) (K.held sink.new) (K.faults sink.old) (K.faults sink.new)) result }
+        (all_seen syndrome.now.probe.now.width addr)
+        (change (K.held sink.old) (K.held sink.new) (K.faults sink.old) (K.faults sink.new)) result }
     ensures few { IfOk result (λ n. n ≤ 1) }
     ensures after { cells.new ≡ scratch_of syndrome.now.probe.now }
 {
@@ -430,8 +440,8 @@ fn list_no_cell<K: Sink>(
     requires told { syndrome.now.evidence ≡ evidence_of syndrome.now.probe.now syndrome.now.misses.now }
     requires expected { ExpectedFits syndrome.now.probe.now.width syndrome.now.evidence }
     ensures lists { Lists syndrome.now.probe.now syndrome.now.misses.now
-      (flat_map (all_seen syndrome.now.probe.now.width) (range_with_len syndrome.now.probe.now.first syndrome.now.probe.now.n))
-      (change (K.held sink.old) (K.held sink.new) (K.faults sink.old) (K.faults sink.new)) result }
+        (flat_map (all_seen syndrome.now.probe.now.width) (range_with_len syndrome.now.probe.now.first syndrome.now.probe.now.n))
+        (change (K.held sink.old) (K.held sink.new) (K.faults sink.old) (K.faults sink.new)) result }
     ensures few { IfOk result (λ n. n ≤ 64) }
     ensures after { cells.new ≡ scratch_of syndrome.now.probe.now }
 {
@@ -453,8 +463,8 @@ fn list_bit_kinds<K: Sink>(
     requires told { syndrome.now.evidence ≡ evidence_of syndrome.now.probe.now syndrome.now.misses.now }
     requires expected { ExpectedFits syndrome.now.probe.now.width syndrome.now.evidence }
     ensures lists { Lists syndrome.now.probe.now syndrome.now.misses.now
-      (flat_map (all_on_bit syndrome.now.probe.now.width syndrome.now.probe.now.first syndrome.now.probe.now.n) bit_kinds)
-      (change (K.held sink.old) (K.held sink.new) (K.faults sink.old) (K.faults sink.new)) result }
+        (flat_map (all_on_bit syndrome.now.probe.now.width syndrome.now.probe.now.first syndrome.now.probe.now.n) bit_kinds)
+        (change (K.held sink.old) (K.held sink.new) (K.faults sink.old) (K.faults sink.new)) result }
     ensures few { IfOk result (λ n. n ≤ 768) }
     ensures after { cells.new ≡ scratch_of syndrome.now.probe.now }
 {
@@ -476,8 +486,8 @@ fn list_coupling_kinds<K: Sink>(
     requires told { syndrome.now.evidence ≡ evidence_of syndrome.now.probe.now syndrome.now.misses.now }
     requires expected { ExpectedFits syndrome.now.probe.now.width syndrome.now.evidence }
     ensures lists { Lists syndrome.now.probe.now syndrome.now.misses.now
-      (flat_map (all_coupled syndrome.now.probe.now.width syndrome.now.probe.now.first syndrome.now.probe.now.n) coupling_kinds)
-      (change (K.held sink.old) (K.held sink.new) (K.faults sink.old) (K.faults sink.new)) result }
+        (flat_map (all_coupled syndrome.now.probe.now.width syndrome.now.probe.now.first syndrome.now.probe.now.n) coupling_kinds)
+        (change (K.held sink.old) (K.held sink.new) (K.faults sink.old) (K.faults sink.new)) result }
     ensures few { IfOk result (λ n. n ≤ 196608) }
     ensures after { cells.new ≡ scratch_of syndrome.now.probe.now }
 {
@@ -499,8 +509,8 @@ fn list_cell_kinds<K: Sink>(
     requires told { syndrome.now.evidence ≡ evidence_of syndrome.now.probe.now syndrome.now.misses.now }
     requires expected { ExpectedFits syndrome.now.probe.now.width syndrome.now.evidence }
     ensures lists { Lists syndrome.now.probe.now syndrome.now.misses.now
-      (flat_map (all_crossed syndrome.now.probe.now.first syndrome.now.probe.now.n) cell_kinds)
-      (change (K.held sink.old) (K.held sink.new) (K.faults sink.old) (K.faults sink.new)) result }
+        (flat_map (all_crossed syndrome.now.probe.now.first syndrome.now.probe.now.n) cell_kinds)
+        (change (K.held sink.old) (K.held sink.new) (K.faults sink.old) (K.faults sink.new)) result }
     ensures few { IfOk result (λ n. n ≤ 16384) }
     ensures after { cells.new ≡ scratch_of syndrome.now.probe.now }
 {
@@ -522,8 +532,8 @@ fn list_all<K: Sink>(
     requires told { syndrome.now.evidence ≡ evidence_of syndrome.now.probe.now syndrome.now.misses.now }
     requires expected { ExpectedFits syndrome.now.probe.now.width syndrome.now.evidence }
     ensures lists { Lists syndrome.now.probe.now syndrome.now.misses.now
-      (faults_of syndrome.now.probe.now.width syndrome.now.probe.now.first syndrome.now.probe.now.n)
-      (change (K.held sink.old) (K.held sink.new) (K.faults sink.old) (K.faults sink.new)) result }
+        (faults_of syndrome.now.probe.now.width syndrome.now.probe.now.first syndrome.now.probe.now.n)
+        (change (K.held sink.old) (K.held sink.new) (K.faults sink.old) (K.faults sink.new)) result }
     ensures after { cells.new ≡ scratch_of syndrome.now.probe.now }
 {
     let of_bits = list_bit_kinds(cells, syndrome, sink)?;

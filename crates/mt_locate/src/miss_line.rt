@@ -21,11 +21,7 @@ fn falls(after: Option<u32>, index: u32) -> bool
 }
 
 /// The checked read with an index, and the word that it is to answer.
-fn of_read(
-    place: u32,
-    index: u32,
-    read: Option<CheckedRead>,
-) -> Result<(u32, u64), LocateRefusal>
+fn of_read(place: u32, index: u32, read: Option<CheckedRead>) -> Result<(u32, u64), LocateRefusal>
     ensures { result ≡ of_read place index read }
 {
     match read {
@@ -51,11 +47,7 @@ fn known_read(
 }
 
 #[tactic(auto, unfolding(crate::specs::LocateLines::read_index))]
-fn read_index(
-    text: &[u8],
-    probe: &Probe,
-    after: Option<u32>,
-) -> Result<(u32, u64), LocateRefusal>
+fn read_index(text: &[u8], probe: &Probe, after: Option<u32>) -> Result<(u32, u64), LocateRefusal>
     requires short { length text.now ≤ 1024 }
     requires accepted { IsAcceptedProbe probe.now }
     ensures { result ≡ read_index probe.now after text.now }
@@ -94,11 +86,7 @@ fn answered_word(text: &[u8], probe: &Probe, expected: u64) -> Result<u64, Locat
 ///
 /// A line that is refused tells the least rule that its first wrong token breaks, with its place.
 #[tactic(auto, unfolding(crate::specs::LocateLines::miss_line))]
-pub fn read_miss(
-    text: &[u8],
-    probe: &Probe,
-    after: Option<u32>,
-) -> Result<Miss, LocateRefusal>
+pub fn read_miss(text: &[u8], probe: &Probe, after: Option<u32>) -> Result<Miss, LocateRefusal>
     requires short { length text.now ≤ 1024 }
     requires accepted { IsAcceptedProbe probe.now }
     ensures { result ≡ miss_line probe.now after text.now }

@@ -7,7 +7,8 @@ ghost use Rattle.mt_seq.specs.Sequence.{is_transparent};
 ghost use Rattle.mt_blocks.specs.Accepted.{IsAcceptedBlock, IsAcceptedSet, set_at, block_at};
 ghost use Rattle.mt_blocks.specs.Slices.{slice_count};
 ghost use Rattle.mt_locate.specs.Probes.{IsAcceptedProbe};
-ghost use Rattle.mt_locate.specs.LocateLines.{IsLocatedSlice, block_number, few_bits, known_set, known_block, known_slice, probe_of, set_number, slice_line, slice_words};
+ghost use Rattle.mt_locate.specs.Inner.Located.{IsLocatedSlice};
+ghost use Rattle.mt_locate.specs.LocateLines.{block_number, few_bits, known_set, known_block, known_slice, probe_of, set_number, slice_line, slice_words};
 
 use crate::probe::Probe;
 use crate::refusal::{LocateKind, LocateRefusal};

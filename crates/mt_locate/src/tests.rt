@@ -103,7 +103,12 @@ fn no_miss(rt: HostRuntime) -> Result<(), Fail> {
 }
 
 // What is listed for a probe.
-fn listed(alloc: Global, probe: &Probe, misses: &[Miss], room: usize) -> Result<(MemSink, u32), Fail>
+fn listed(
+    alloc: Global,
+    probe: &Probe,
+    misses: &[Miss],
+    room: usize,
+) -> Result<(MemSink, u32), Fail>
     requires { IsAcceptedProbe probe.now }
 {
     let shape = Shape {
@@ -291,8 +296,16 @@ fn miss_refusal(text: &[u8], after: Option<u32>) -> Option<(u8, u32)>
 #[test]
 fn misses_are_read(rt: HostRuntime) -> Result<(), Fail> {
     let probe = checkerboard_on(2);
-    let miss = read_miss(b"miss 2 0fF", &probe, Some(1)).ok().ok_or("the line is refused")?;
-    assert_eq!(rt; miss, Miss { index: 2, word: 0xff });
+    let miss = read_miss(b"miss 2 0fF", &probe, Some(1))
+        .ok()
+        .ok_or("the line is refused")?;
+    assert_eq!(rt;
+        miss,
+        Miss {
+            index: 2,
+            word: 0xff
+        }
+    );
     assert_eq!(rt; miss_refusal(b"miss 2 00", None), Some((15, 8)));
     assert_eq!(rt; miss_refusal(b"miss 2 100", None), Some((4, 8)));
     assert_eq!(rt; miss_refusal(b"miss 2 g", None), Some((2, 8)));

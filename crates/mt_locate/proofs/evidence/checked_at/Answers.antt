@@ -1,4 +1,4 @@
-use Rattle.std.proofs.Common.{◌≡◌, ◌≤◌, ℕ, length, ap, sym, ◌∙◌, arith}
+use Rattle.std.proofs.Common.{◌≡◌, ℕ, length, ap, sym, ◌∙◌, arith}
 use Rattle.mt_plan.specs.Plan.{steps_of}
 use Rattle.mt_plan.specs.Accesses.{act_on}
 use Rattle.mt_locate.specs.Suspects.{checked}

@@ -1,4 +1,4 @@
-use Rattle.std.proofs.Common.{◌≡◌, ◌<◌, ◌≤◌, ◌+◌, ◌*◌, ℕ, List, false, get_or, ap, arith}
+use Rattle.std.proofs.Common.{◌≤◌, ℕ, List, get_or, ap, arith}
 use Rattle.mt_locate.specs.declared.kinds.OfCells.{OfCells}
 use Rattle.mt_locate.specs.declared.kinds.OfCells.TheVariants as kind
 use Rattle.mt_locate.specs.Listed.{all_crossed, cell_kinds}

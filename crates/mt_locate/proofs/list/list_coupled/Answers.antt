@@ -1,4 +1,4 @@
-use Rattle.std.proofs.Common.{◌≡◌, ◌<◌, ◌≤◌, ◌+◌, ◌*◌, ℕ, List, length, sym, ◌∙◌, arith}
+use Rattle.std.proofs.Common.{◌<◌, ◌≤◌, ◌*◌, ℕ, List, arith}
 use Rattle.std.specs.List.{flat_map}
 use Rattle.mt_word.specs.Word.{width_bits}
 use Rattle.mt_fault.specs.declared.fault.Spot.{Spot}

@@ -1,4 +1,4 @@
-use Rattle.std.proofs.Common.{◌≡◌, ◌<◌, ◌≤◌, ◌+◌, ◌*◌, ℕ, List, false, get_or, ap, arith}
+use Rattle.std.proofs.Common.{◌≤◌, ℕ, List, false, get_or, ap, arith}
 use Rattle.mt_locate.specs.declared.kinds.Coupling.{Coupling}
 use Rattle.mt_locate.specs.declared.kinds.Coupling.TheVariants as kind
 use Rattle.mt_locate.specs.Listed.{all_coupled, coupling_kinds}

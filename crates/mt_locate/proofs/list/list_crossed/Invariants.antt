@@ -1,4 +1,4 @@
-use Rattle.std.proofs.Common.{◌≡◌, ◌+◌, ◌*◌, ◌≤◌, take}
+use Rattle.std.proofs.Common.{◌≡◌, ◌*◌, ◌≤◌, take}
 use Rattle.std.specs.List.{flat_map, range_with_len}
 use Rattle.mt_locate.specs.Probes.{scratch_of}
 use Rattle.mt_locate.specs.Listed.{crossed}

@@ -1,5 +1,5 @@
-use Rattle.std.proofs.Common.{◌≡◌, ◌+◌, ◌*◌, ◌≤◌, take}
-use Rattle.std.specs.List.{flat_map, range_with_len}
+use Rattle.std.proofs.Common.{◌≡◌, ◌*◌, ◌≤◌, take}
+use Rattle.std.specs.List.{flat_map}
 use Rattle.mt_locate.specs.Probes.{scratch_of}
 use Rattle.mt_locate.specs.Listed.{coupled, spots}
 use Rattle.mt_locate.specs.Inner.Listing.{change}

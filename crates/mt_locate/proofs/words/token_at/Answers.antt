@@ -1,4 +1,4 @@
-use Rattle.std.proofs.Common.{◌≡◌, ◌≤◌, ℕ, sym, ◌∙◌, arith}
+use Rattle.std.proofs.Common.{sym, ◌∙◌, arith}
 use Rattle.mt_text.specs.Tokens.{tokens}
 use Rattle.mt_text.specs.Cursors.{left, token_view}
 use Rattle.mt_locate.proofs.LineWords.{taken_ok, taken_err, here, past_end}
