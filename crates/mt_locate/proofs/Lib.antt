@@ -1,3 +1,12 @@
 pub mod Spans
 pub mod Resets
 pub mod Raised
+pub mod Listing
+pub mod CellReads
+pub mod Tested
+pub mod Sound
+pub mod Culprits
+pub mod Suspicion
+pub mod LineWords
+pub mod Members
+pub mod Seen

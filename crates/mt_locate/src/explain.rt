@@ -17,7 +17,7 @@ use mt_fault::{
     Cells, Fault, memory_without_a_fault_is_plain, placement_is_tested, span_may_be_cut,
     test_accesses_may_be_cut,
 };
-use mt_plan::{Act, step_at, steps};
+use mt_plan::{Act, Steps, steps};
 use mt_word::{Width, flip};
 
 /// Makes one step on the word at an address; where it is a checked read that answered another word, it answers that one.
@@ -76,8 +76,9 @@ fn misses_exactly(cells: &mut Cells, probe: &Probe, misses: &[Miss]) -> bool
     let width = cells.width();
     let n = u32::from(probe.n);
     let mut made = 0;
+    let mut cursor = Steps::new(&probe.alg, n);
     for index in 0..steps(&probe.alg, n) {
-        let step = step_at(&probe.alg, n, index);
+        let step = cursor.next(&probe.alg);
         let addr = u32::from(step.cell);
         let wrong = wrong_answer(cells, width, addr, probe.background, step.act);
         if wrong != told(misses, made, index) {

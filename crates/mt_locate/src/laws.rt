@@ -1,9 +1,12 @@
 //! Laws of faults of a slice.
 
 ghost use Rattle.mt_locate.specs.Explanations.{MissesAreThoseOfTheMemory};
+ghost use Rattle.mt_locate.specs.Listed.{ExplainsIsTested, FaultsOfTheSliceAreListed};
 ghost use Rattle.mt_locate.specs.Moved.{FaultsStayWellPlaced};
+ghost use Rattle.mt_locate.specs.Suspects.{CulpritsAreSuspects, FirstMissTellsWhatIsSeen};
 
 use mt_plan::plans_are_steady;
+use mt_word::bits_are_put;
 
 /// A fault that lies inside a slice of n words lies, moved down, in n words.
 pub fn faults_of_a_slice_stay_well_placed()
@@ -15,6 +18,33 @@ pub fn faults_of_a_slice_stay_well_placed()
 pub fn misses_are_those_of_the_memory()
     ensures { MissesAreThoseOfTheMemory }
 {
+    plans_are_steady();
+    faults_of_a_slice_stay_well_placed();
+}
+
+/// The list of all faults of a slice has each fault that lies inside it, and no other.
+pub fn faults_of_the_slice_are_listed()
+    ensures { FaultsOfTheSliceAreListed }
+{}
+
+/// The faults of a list that explain the misses are those of the definition.
+pub fn explaining_is_tested()
+    ensures { ExplainsIsTested }
+{}
+
+/// Where a word without a cell explains the misses, the first miss tells what is seen there.
+pub fn first_miss_tells_what_is_seen()
+    ensures { FirstMissTellsWhatIsSeen }
+{
+    plans_are_steady();
+    faults_of_a_slice_stay_well_placed();
+}
+
+/// A fault that explains the misses is one that may make the read of the first miss answer so.
+pub fn culprits_are_suspects()
+    ensures { CulpritsAreSuspects }
+{
+    bits_are_put();
     plans_are_steady();
     faults_of_a_slice_stay_well_placed();
 }

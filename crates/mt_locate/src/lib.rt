@@ -1,15 +1,29 @@
 //! Fault location: which single faults explain what was read of a slice.
 #![tactic(auto)]
 
+mod evidence;
 mod explain;
+mod kinds;
 mod laws;
+mod list;
+mod miss_line;
 mod moved;
 mod probe;
+mod refusal;
+mod slice_line;
 mod stand_in;
+mod words;
 
 pub use explain::explains;
-pub use laws::{faults_of_a_slice_stay_well_placed, misses_are_those_of_the_memory};
+pub use laws::{
+    culprits_are_suspects, explaining_is_tested, faults_of_a_slice_stay_well_placed,
+    faults_of_the_slice_are_listed, first_miss_tells_what_is_seen, misses_are_those_of_the_memory,
+};
+pub use list::list_faults;
+pub use miss_line::read_miss;
 pub use probe::{Miss, Probe};
+pub use refusal::{LocateKind, LocateRefusal};
+pub use slice_line::read_slice;
 pub use stand_in::scratch;
 
 #[cfg(test)]

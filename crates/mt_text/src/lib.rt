@@ -16,6 +16,7 @@ mod request;
 mod token;
 mod value;
 
+pub use cursor::Cursor;
 pub use entry::{entry_text, write_entry};
 pub use event_text::LineText;
 pub use laws::{
@@ -26,7 +27,7 @@ pub use laws::{
 pub use line::{Event, FlsCall, Line, LineKind, LineRefusal, RamCall};
 pub use line_text::{push_line, write_line};
 pub use reading::read_line;
-pub use token::number_of;
+pub use token::{Token, number_of};
 
 #[cfg(test)]
 mod tests;

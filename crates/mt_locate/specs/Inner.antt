@@ -1,0 +1,3 @@
+-- What only contracts between the functions of this crate cite.
+pub mod Listing
+pub mod Located
