@@ -31,10 +31,10 @@ use Rattle.mt_replay.specs.Inner.Head.{Parts, EndsWith, Exceeds, HeadBreaks, IsT
 use Rattle.mt_replay.specs.Machine.{Machine, started}
 use Rattle.mt_replay.specs.Script.{Script, ended, led_by, script_from}
 use Rattle.mt_replay.specs.Cut.{chosen_text}
-use Rattle.mt_replay.specs.Outcome.{Outcome, Play, steps_touches, bad_config_text, rule_number, play_of, after_of, lines_text, opening_text, closing_text, end_text, end_status, bad_config, said, read_fault_text, scripted, by_job, outcome}
+use Rattle.mt_replay.specs.Outcome.{Outcome, Play, configured, judged_job, steps_touches, bad_config_text, rule_number, play_of, after_of, lines_text, opening_text, closing_text, end_text, end_status, bad_config, said, read_fault_text, scripted, outcome}
 use Rattle.mt_replay.specs.Changes.{Change, change, UsesBoard}
 use Rattle.mt_replay.specs.Inner.Runs.{outputs, place, Answered, EndsAt, BeginsWith, EndCaused}
-use Rattle.mt_replay.specs.Inner.Jobs.{IsFound, HasBehind, FoundGives, Begins, BeginsEmpty, HeadFails, HasSet, IsTask, closing_of, task_end, BeginsAs, IsBegun, BeginFails}
+use Rattle.mt_replay.specs.Inner.Jobs.{Given, TellsRefusals, IsFound, HasBehind, FoundGives, Begins, BeginsEmpty, HeadFails, HasSet, IsTask, closing_of, task_end, BeginsAs, IsBegun, BeginFails}
 use Rattle.mt_replay.specs.Replay.{Outcomes, outcomes, BoardIs, Concluded, TakenGive, JobGives, StatusCaused, Told, Stood, Completes}
 use Rattle.mt_replay.proofs.Plays.{lines_text-append}
 
@@ -58,56 +58,58 @@ told_behind (Some x) held (Some z) P p f = f x z p
 lines_or_nothing : follows.Nothing ≡ follows.Lines → ⊥
 lines_or_nothing e = cc
 
-part_is : (kept x y : List ℕ) (form : Form) (defect : Option MemoryFault) (h : Parts kept x y) (ending : Ending) (rest : List ℕ) → outcome form ending defect (h.front ++ rest) ≡ by_job form ending defect (Parted kept (cut rest))
-unfolding outcome
-part_is kept x y form defect h ending rest = ap (by_job form ending defect) (h.job ending rest)
+part_is : (kept x y : List ℕ) (given : Given) (h : Parts kept x y) (ending : Ending) (rest : List ℕ) → judged_job given ending (job_of ending (h.front ++ rest)) ≡ judged_job given ending (Parted kept (cut rest))
+part_is kept x y given h ending rest = ap (judged_job given ending) (h.job ending rest)
 
 -- the separator was found, and lines may follow
 pub found_follows : (found : Found) (kept x y : List ℕ) → IsFound found kept
     → HasBehind follows.Lines found → Parts kept x y → FoundGives found x y
 found_follows found.NoMemory kept x y value same h = tt
-found_follows (found.Refused why) kept x y value same h = λ form defect.
-    ap (outcome form Finished defect) h.taken ∙ part_is kept x y form defect h Finished y ∙ value form Finished defect (cut y)
+found_follows (found.Refused why) kept x y value same h = λ given alike.
+    ap (λ (bytes : List ℕ). judged_job given Finished (job_of Finished bytes)) h.taken ∙ part_is kept x y given h Finished y ∙ value given Finished (cut y) alike
 found_follows (found.Config c follows.Lines) kept x y value same h = record {
   front = h.front;
   taken = h.taken;
-  is = λ form ending defect rest. part_is kept x y form defect h ending rest ∙ value form ending defect (cut rest);
+  is = λ given ending rest. part_is kept x y given h ending rest ∙ value given ending (cut rest);
 }
 found_follows (found.Config c follows.Nothing) kept x y value same h = absurd (lines_or_nothing same)
 
-end_is : (given : Job) (x y : List ℕ) (form : Form) (defect : Option MemoryFault) → EndsWith given x y → outcome form Finished defect x ≡ by_job form Finished defect given
-unfolding outcome
-end_is given x y form defect h = ap (by_job form Finished defect) h.job
+end_is : (job : Job) (x y : List ℕ) (given : Given) → EndsWith job x y → judged_job given Finished (job_of Finished x) ≡ judged_job given Finished job
+end_is job x y given h = ap (judged_job given Finished) h.job
 
 -- the separator ends the input
 pub found_empty : (found : Found) (kept x y : List ℕ) → IsFound found kept
     → HasBehind follows.Nothing found → EndsWith (Parted kept (record { lines = []; rest = [] })) x y → FoundGives found x y
 found_empty found.NoMemory kept x y value same h = tt
-found_empty (found.Refused why) kept x y value same h = λ form defect. end_is _ x y form defect h ∙ value form Finished defect (record { lines = []; rest = [] })
+found_empty (found.Refused why) kept x y value same h = λ given alike. end_is _ x y given h ∙ value given Finished (record { lines = []; rest = [] }) alike
 found_empty (found.Config c follows.Nothing) kept x y value same h = record {
-  is = λ form defect. end_is _ x y form defect h ∙ value form Finished defect (record { lines = []; rest = [] });
+  is = λ given. end_is _ x y given h ∙ value given Finished (record { lines = []; rest = [] });
   all = h.all;
 }
 found_empty (found.Config c follows.Lines) kept x y value same h = absurd (lines_or_nothing (sym same))
 
-pub found_whole : (kept x y : List ℕ) (why : Refused) → ((form : Form) (defect : Option MemoryFault) → by_job form Finished defect (Whole kept) ≡ bad_config why) → EndsWith (Whole kept) x y → FoundGives (found.Refused why) x y
-found_whole kept x y why value h = λ form defect. end_is _ x y form defect h ∙ value form defect
+pub found_whole : (kept x y : List ℕ) (why : Refused) → ((given : Given) → judged_job given Finished (Whole kept) ≡ bad_config why) → EndsWith (Whole kept) x y → FoundGives (found.Refused why) x y
+found_whole kept x y why value h = λ given alike. end_is _ x y given h ∙ value given
 
-long_job : (form : Form) (defect : Option MemoryFault) (given : Job) → IsTooLong given → by_job form Finished defect given ≡ bad_config (because.Rule 18)
-long_job form defect (Parted config lines) h = rw (lt-ltb 65536 (length config) h) refl
-long_job form defect (Whole bytes) h = rw (lt-ltb 65536 (length bytes) (omega (arith, h))) refl
+long_job : (given : Given) (job : Job) → IsTooLong job → judged_job given Finished job ≡ bad_config (because.Rule 18)
+long_job given (Parted config lines) h = rw (lt-ltb 65536 (length config) h) refl
+long_job given (Whole bytes) h = rw (lt-ltb 65536 (length bytes) (omega (arith, h))) refl
 
 pub found_long : (x y : List ℕ) → Exceeds x y → FoundGives (found.Refused (because.Rule 18)) x y
-unfolding outcome
-found_long x y h = λ form defect. ap (outcome form Finished defect) h.taken ∙ long_job form defect (job_of Finished (h.front ++ y)) (h.long Finished y)
+found_long x y h = λ given alike.
+    ap (λ (bytes : List ℕ). judged_job given Finished (job_of Finished bytes)) h.taken ∙ long_job given (job_of Finished (h.front ++ y)) (h.long Finished y)
 
 pub head_fails : (x y : List ℕ) → HeadBreaks x y → HeadFails x y
-unfolding outcome
 head_fails x y h = record {
   front = h.front;
   taken = h.taken;
-  is = λ form defect. ap (by_job form Failed defect) h.job ∙ rw (lt-leb 65542 (length h.front) h.short) refl;
+  is = λ given. ap (judged_job given Failed) h.job ∙ rw (lt-leb 65542 (length h.front) h.short) refl;
 }
+
+-- the outcome of a form is given by its configuration
+outcome-is : (form : Form) (ending : Ending) (defect : Option MemoryFault) (bytes : List ℕ) → outcome form ending defect bytes ≡ judged_job (configured form ending defect) ending (job_of ending bytes)
+unfolding outcome
+outcome-is form ending defect bytes = refl
 
 -- ---- one text at the end
 
@@ -142,7 +144,7 @@ nothing_behind (x ∷ xs) ys n = cc
 begins_is : (form : Form) (c : Config) (defect : Option MemoryFault) (m : Machine) (before : Board) (was tape : Option (List Touch)) (x y : List ℕ) (t : Begins c x y) (ending : Ending) (rest : List ℕ) (script : Script)
     → BeginsAs form c defect m before was tape → script_from c.shape ending 1 (cut rest) ≡ script → outcome form ending defect (t.front ++ rest) ≡ scripted form c m script
 begins_is form c defect m before was tape x y t ending rest script begins is =
-    t.is form ending defect rest ∙ ap (scripted form c (started c defect)) is ∙ scripted-as form c defect m before was tape script begins
+    outcome-is form ending defect (t.front ++ rest) ∙ t.is (configured form ending defect) ending rest ∙ ap (scripted form c (started c defect)) is ∙ scripted-as form c defect m before was tape script begins
 
 pub gives_at : (e : End) (form : Form) (c : Config) (shape : Shape) (defect : Option MemoryFault) (m : Machine) (before : Board) (was tape : Option (List Touch)) (lines : List Line) (held : List ℕ) (a b left : Option (List ℕ))
     → shape ≡ c.shape → BeginsAs form c defect m before was tape → (e ≡ end.Broken → held ≡ []) → WhereTold a b (Begins c) → WhereTold b (prepend_known held left) (EndsAt e shape 1 lines)
@@ -166,7 +168,7 @@ pub gives_empty : (form : Form) (c : Config) (defect : Option MemoryFault) (m : 
     → BeginsAs form c defect m before was tape → WhereTold a (prepend_known held left) (BeginsEmpty c)
     → WhereTold a left (GivesAt (end.Whole 0) (outcomes form defect) (scripted form c m (ended (end.Whole 0))))
 gives_empty form c defect m before was tape held a left begins p =
-    told_behind a held left _ p (λ x z t. (t.is form defect ∙ scripted-as form c defect m before was tape (ended (end.Whole 0)) begins, nothing_behind held z t.all))
+    told_behind a held left _ p (λ x z t. (outcome-is form Finished defect x ∙ t.is (configured form Finished defect) ∙ scripted-as form c defect m before was tape (ended (end.Whole 0)) begins, nothing_behind held z t.all))
 
 -- ---- how it is told
 
@@ -302,10 +304,10 @@ failed_job status.WriteFault form c behind defect old new held a left h h' was t
     by : (lines : Follows) (x y : List ℕ) → FoundGives (found.Config c lines) x y → (more : List ℕ) × ((outcome form Finished defect x).text ≡ opening_text form c ++ more)
     by follows.Lines x y t =
         let r = rest (started c defect) (script_from c.shape Finished 1 (cut y)) in
-        (r.0, ap (λ (o : Outcome). o.text) (ap (outcome form Finished defect) t.taken ∙ t.is form Finished defect y) ∙ r.1)
+        (r.0, ap (λ (o : Outcome). o.text) (ap (outcome form Finished defect) t.taken ∙ outcome-is form Finished defect (t.front ++ y) ∙ t.is (configured form Finished defect) Finished y) ∙ r.1)
     by follows.Nothing x y t =
         let r = rest (started c defect) (ended (end.Whole 0)) in
-        (r.0, ap (λ (o : Outcome). o.text) (t.is form defect) ∙ r.1)
+        (r.0, ap (λ (o : Outcome). o.text) (outcome-is form Finished defect x ∙ t.is (configured form Finished defect)) ∙ r.1)
 failed_job status.Done form c behind defect old new held a left h h' was tape' source sink sink' fails begins = absurd fails
 failed_job status.Usage form c behind defect old new held a left h h' was tape' source sink sink' fails begins = absurd fails
 failed_job (status.BadConfig code) form c behind defect old new held a left h h' was tape' source sink sink' fails begins = absurd fails
@@ -330,35 +332,54 @@ failed_board (status.BadConfig code) form c old new sink sink' x fails = absurd 
 failed_board (status.BadScript line code at) form c old new sink sink' x fails = absurd fails
 failed_board status.ReadFault form c old new sink sink' x fails = absurd fails
 
+-- outcomes that a configuration decides, with what is behind it
+pub record AreJudged (given : Outcomes) (by : Ending → Given) : Type 0 where
+  pub is : (ending : Ending) (bytes : List ℕ) → given ending bytes ≡ judged_job (by ending) ending (job_of ending bytes)
+  pub refusals : (ending : Ending) → TellsRefusals (by ending)
+
+pub forms-judged : (form : Form) (defect : Option MemoryFault) → AreJudged (outcomes form defect) (λ ending. configured form ending defect)
+forms-judged form defect = record { is = λ ending bytes. outcome-is form ending defect bytes; refusals = λ ending refusal behind. refl }
+
 -- the configuration is refused
-pub refused_job : (result : Status) (why : Refused) (form : Form) (defect : Option MemoryFault) (old : Board) (held : List ℕ) (a left h h' : Option (List ℕ)) (tape : Option (List Touch)) (source source' sink sink' : ℕ)
-    → Told result (status.BadConfig (rule_number why)) (bad_config_text why) h h' sink sink' → source' ≡ source → WhereTold a (prepend_known held left) (FoundGives (found.Refused why))
-    → JobGives result (outcomes form defect) old old source source' (change a left h h' tape tape)
-refused_job result why form defect old held a left h h' tape source source' sink sink' (inl t) same is =
-    subst (λ (s : Status). JobGives s (outcomes form defect) old old source source' (change a left h h' tape tape)) (sym t.0)
-    (record { outcome = bad_config why; status = refl; written = t.1.written; is = told_behind a held left _ is (λ x z r. r form defect); board = (refl, refl) })
-refused_job result why form defect old held a left h h' tape source source' sink sink' (inr t) same is =
-    subst (λ (s : Status). JobGives s (outcomes form defect) old old source source' (change a left h h' tape tape)) (sym t.0)
+pub refused_job : (result : Status) (why : Refused) (given : Outcomes) (by : Ending → Given) (old : Board) (held : List ℕ) (a left h h' : Option (List ℕ)) (tape : Option (List Touch)) (source source' sink sink' : ℕ)
+    → AreJudged given by → Told result (status.BadConfig (rule_number why)) (bad_config_text why) h h' sink sink' → source' ≡ source → WhereTold a (prepend_known held left) (FoundGives (found.Refused why))
+    → JobGives result given old old source source' (change a left h h' tape tape)
+refused_job result why given by old held a left h h' tape source source' sink sink' judged (inl t) same is =
+    subst (λ (s : Status). JobGives s given old old source source' (change a left h h' tape tape)) (sym t.0)
+    (record {
+      outcome = bad_config why;
+      status = refl;
+      written = t.1.written;
+      is = told_behind a held left _ is (λ x z r. judged.is Finished x ∙ r (by Finished) (judged.refusals Finished));
+      board = (refl, refl);
+    })
+refused_job result why given by old held a left h h' tape source source' sink sink' judged (inr t) same is =
+    subst (λ (s : Status). JobGives s given old old source source' (change a left h h' tape tape)) (sym t.0)
     (record {
       text = bad_config_text why;
       written = t.1.written;
-      defined = told_behind a held left _ is (λ x z r. inl (same, [], ap (λ (o : Outcome). o.text) (r form defect) ∙ sym (append-nil (bad_config_text why))));
+      defined = told_behind a held left _ is
+          (λ x z r. inl (same, [], ap (λ (o : Outcome). o.text) (judged.is Finished x ∙ r (by Finished) (judged.refusals Finished)) ∙ sym (append-nil (bad_config_text why))));
     })
 
 -- the source failed before a configuration was found
-pub headless_job : (result : Status) (form : Form) (defect : Option MemoryFault) (old : Board) (held : List ℕ) (a left h h' : Option (List ℕ)) (tape : Option (List Touch)) (source source' sink sink' : ℕ)
-    → Told result status.ReadFault read_fault_text h h' sink sink' → held ≡ [] → Rose source source' → WhereTold a (prepend_known held left) HeadFails
-    → JobGives result (outcomes form defect) old old source source' (change a left h h' tape tape)
-headless_job result form defect old held a left h h' tape source source' sink sink' t none rose fails =
+pub headless_job : (result : Status) (given : Outcomes) (by : Ending → Given) (old : Board) (held : List ℕ) (a left h h' : Option (List ℕ)) (tape : Option (List Touch)) (source source' sink sink' : ℕ)
+    → AreJudged given by → Told result status.ReadFault read_fault_text h h' sink sink' → held ≡ [] → Rose source source' → WhereTold a (prepend_known held left) HeadFails
+    → JobGives result given old old source source' (change a left h h' tape tape)
+headless_job result given by old held a left h h' tape source source' sink sink' judged t none rose fails =
     (elim t [
-      | inl w ↦ subst (λ (s : Status). JobGives s (outcomes form defect) old old source source' (change a left h h' tape tape)) (sym w.0)
+      | inl w ↦ subst (λ (s : Status). JobGives s given old old source source' (change a left h h' tape tape)) (sym w.0)
           (record { outcome = said read_fault_text status.ReadFault; status = refl; written = w.1.written; is = taken; board = (refl, refl) })
-      | inr w ↦ subst (λ (s : Status). JobGives s (outcomes form defect) old old source source' (change a left h h' tape tape)) (sym w.0)
+      | inr w ↦ subst (λ (s : Status). JobGives s given old old source source' (change a left h h' tape tape)) (sym w.0)
           (record { text = read_fault_text; written = w.1.written; defined = WhereTold-map a left taken (λ x z r. inr (rose, r.front, r.taken, ap (λ (o : Outcome). o.text) r.is)) })
     ])
   where
-    taken : WhereTold a left (TakenGive (outcomes form defect) (said read_fault_text status.ReadFault))
-    taken = told_behind a held left _ fails (λ x z f. record { front = f.front; taken = f.taken ∙ ap (λ (l : List ℕ). f.front ++ (l ++ z)) none; is = f.is form defect })
+    taken : WhereTold a left (TakenGive given (said read_fault_text status.ReadFault))
+    taken = told_behind a held left _ fails (λ x z f. record {
+      front = f.front;
+      taken = f.taken ∙ ap (λ (l : List ℕ). f.front ++ (l ++ z)) none;
+      is = judged.is Failed f.front ∙ f.is (by Failed);
+    })
 
 pub told_unheld : (a b : Option (List ℕ)) (P : List ℕ → List ℕ → Type 0) → WhereTold (prepend_known [] a) b P → WhereTold a b P
 told_unheld None b P p = tt

@@ -173,11 +173,15 @@ abbrev pub configured : Form → Ending → Option Fault → Result Config Confi
 configured form ending defect (Err refusal) script = bad_config (refused_of refusal)
 configured form ending defect (Ok config) script = scripted form config (started config defect) (script_from config.shape ending 1 script)
 
--- a configuration that is too long is refused first; then one without a separator, where the input ended; where the source failed, that is told
+-- A configuration that is too long is refused first; then one without a separator, where the input ended; where the source failed, that is
+-- told. Else the configuration decides, and what is behind it.
+abbrev pub judged_job : (Result Config ConfigRefusal → Cut → Outcome) → Ending → Job → Outcome
+judged_job given ending (Parted config behind) = if nat_lt 65536 (length config) then bad_config (because.Rule 18) else given (config_of config) behind
+judged_job given Finished (Whole bytes) = if nat_lt 65536 (length bytes) then bad_config (because.Rule 18) else bad_config (because.Rule 19)
+judged_job given Failed (Whole bytes) = if nat_le 65542 (length bytes) then bad_config (because.Rule 18) else said read_fault_text status.ReadFault
+
 abbrev pub by_job : Form → Ending → Option Fault → Job → Outcome
-by_job form ending defect (Parted config script) = if nat_lt 65536 (length config) then bad_config (because.Rule 18) else configured form ending defect (config_of config) script
-by_job form Finished defect (Whole bytes) = if nat_lt 65536 (length bytes) then bad_config (because.Rule 18) else bad_config (because.Rule 19)
-by_job form Failed defect (Whole bytes) = if nat_le 65542 (length bytes) then bad_config (because.Rule 18) else said read_fault_text status.ReadFault
+by_job form ending defect job = judged_job (configured form ending defect) ending job
 
 -- what some bytes give in a form, on a board with a defect or none
 unfoldable pub outcome : Form → Ending → Option Fault → List ℕ → Outcome

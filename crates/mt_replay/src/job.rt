@@ -12,10 +12,10 @@ ghost use Rattle.mt_conf.specs.Accepted.{IsAcceptedConfig};
 ghost use Rattle.mt_replay.specs.Input.{Finished, Whole};
 ghost use Rattle.mt_cut.specs.Holds.{IsOfAccepted};
 ghost use Rattle.mt_replay.specs.Machine.{machine, IsReady, started};
-ghost use Rattle.mt_replay.specs.Outcome.{migrated, opening_text, end_status, bad_config, bad_config_text, by_job, rule_number as number_of_rule};
+ghost use Rattle.mt_replay.specs.Outcome.{migrated, opening_text, end_status, bad_config, bad_config_text, judged_job, rule_number as number_of_rule};
 ghost use Rattle.mt_replay.specs.Changes.{change, UsesBoard};
 ghost use Rattle.mt_replay.specs.Inner.Runs.{outputs, IsReadyFor};
-ghost use Rattle.mt_replay.specs.Inner.Jobs.{IsFound, HasBehind, IsAcceptedFound, FoundGives, HeadFails, Begins, IsTask, closing_of, task_end, IsBegun, BeginFails};
+ghost use Rattle.mt_replay.specs.Inner.Jobs.{Given, IsFound, HasBehind, IsAcceptedFound, FoundGives, HeadFails, Begins, IsTask, closing_of, task_end, IsBegun, BeginFails};
 ghost use Rattle.mt_replay.specs.Replay.{outcomes, JobGives, IsLeftFree, StatusCaused, Told};
 
 use crate::cut::{chosen, write_chosen};
@@ -65,8 +65,7 @@ fn found_in(alloc: Global, kept: &[u8], follows: Follows) -> Found
 
 // The refusal of an input without a separator.
 fn whole_refused(bytes: &[u8]) -> Refused
-    ensures { (form : _) (defect : Option MemoryFault) → by_job form Finished defect (Whole bytes.now)
-        ≡ bad_config result }
+    ensures { (given : Given) → judged_job given Finished (Whole bytes.now) ≡ bad_config result }
 {
     if bytes.len() > 65_536 {
         Refused::Rule(18)

@@ -1,5 +1,5 @@
 -- What the calls do between the words and the script.
-use Rattle.std.specs.Prelude.{ℕ, ◌≡◌, List, [], ◌++◌, Option, Some, IfSome, slice_get}
+use Rattle.std.specs.Prelude.{ℕ, ◌≡◌, List, [], ◌++◌, Option, Some, IfSome, Result, Ok, Err, slice_get}
 use Rattle.std.specs.Io.KnownBytes.{Appends}
 use Rattle.mt_port.specs.Causes.{Rose}
 use Rattle.mt_port.specs.Streams.{AppendsFront}
@@ -9,6 +9,7 @@ use Rattle.mt_fault.specs.declared.fault.Fault.{Fault}
 use Rattle.mt_blocks.specs.declared.config.ParamSet.{ParamSet}
 use Rattle.mt_cut.specs.Holds.{IsOfAccepted}
 use Rattle.mt_conf.specs.declared.config.Config.{Config}
+use Rattle.mt_conf.specs.declared.config.ConfigRefusal.{ConfigRefusal}
 use Rattle.mt_conf.specs.Accepted.{IsAcceptedConfig}
 use Rattle.mt_replay.specs.declared.form.Form.{Form}
 use Rattle.mt_replay.specs.declared.form.Form.TheVariants as forms
@@ -21,20 +22,26 @@ use Rattle.mt_replay.specs.declared.run.End.{End}
 use Rattle.mt_replay.specs.declared.run.End.TheVariants as end
 use Rattle.mt_replay.specs.declared.status.Status.{Status}
 use Rattle.mt_replay.specs.declared.status.Status.TheVariants as status
-use Rattle.mt_replay.specs.Input.{Ending, Finished, Failed, Cut, cut, Parted}
+use Rattle.mt_replay.specs.Input.{Ending, Finished, Failed, Cut, cut, Parted, job_of}
 use Rattle.mt_replay.specs.Machine.{Machine, started}
 use Rattle.mt_replay.specs.Script.{ended, script_from}
 use Rattle.mt_replay.specs.Cut.{chosen_text}
-use Rattle.mt_replay.specs.Outcome.{bad_config, said, done_text, refused_text, read_fault_text, opening_text, scripted, by_job, outcome}
+use Rattle.mt_replay.specs.Outcome.{Outcome, bad_config, said, refused_of, done_text, refused_text, read_fault_text, opening_text, judged_job}
 use Rattle.mt_replay.specs.Changes.{Change}
 
--- a configuration that was read is what its bytes are, whatever script follows
+-- what a configuration gives, accepted or refused, with the bytes behind it
+abbrev pub Given : Type 0
+Given = Result Config ConfigRefusal → Cut → Outcome
+
+-- a refused one is told alike in all forms
+abbrev pub TellsRefusals : Given → Type 0
+TellsRefusals given = (refusal : ConfigRefusal) (behind : Cut) → given (Err refusal) behind ≡ bad_config (refused_of refusal)
+
+-- a configuration that was read is what its bytes are, whatever follows it
 abbrev pub IsFound : Found → List ℕ → Type 0
 IsFound found.NoMemory kept = Unit {0}
-IsFound (found.Refused why) kept = (form : Form) (ending : Ending) (defect : Option Fault) (lines : Cut) → by_job form ending defect (Parted kept lines) ≡ bad_config why
-IsFound (found.Config c follows) kept =
-    (form : Form) (ending : Ending) (defect : Option Fault) (lines : Cut)
-    → by_job form ending defect (Parted kept lines) ≡ scripted form c (started c defect) (script_from c.shape ending 1 lines)
+IsFound (found.Refused why) kept = (given : Given) (ending : Ending) (behind : Cut) → TellsRefusals given → judged_job given ending (Parted kept behind) ≡ bad_config why
+IsFound (found.Config c follows) kept = (given : Given) (ending : Ending) (behind : Cut) → judged_job given ending (Parted kept behind) ≡ given (Ok c) behind
 
 -- whether lines may follow
 abbrev pub HasBehind : Follows → Found → Type 0
@@ -47,21 +54,20 @@ IsAcceptedFound found.NoMemory = Unit {0}
 IsAcceptedFound (found.Refused why) = Unit {0}
 IsAcceptedFound (found.Config c follows) = IsAcceptedConfig c
 
--- The configuration was taken, and the bytes behind it are its script.
+-- The configuration was taken, and the bytes behind it are what follows.
 pub record Begins (c : Config) (before after : List ℕ) : Type 0 where
   pub front : List ℕ
   pub taken : before ≡ front ++ after
-  pub is : (form : Form) (ending : Ending) (defect : Option Fault) (rest : List ℕ)
-      → outcome form ending defect (front ++ rest) ≡ scripted form c (started c defect) (script_from c.shape ending 1 (cut rest))
+  pub is : (given : Given) (ending : Ending) (rest : List ℕ) → judged_job given ending (job_of ending (front ++ rest)) ≡ given (Ok c) (cut rest)
 
 -- The input ended with the configuration's separator.
 pub record BeginsEmpty (c : Config) (before after : List ℕ) : Type 0 where
-  pub is : (form : Form) (defect : Option Fault) → outcome form Finished defect before ≡ scripted form c (started c defect) (ended (end.Whole 0))
+  pub is : (given : Given) → judged_job given Finished (job_of Finished before) ≡ given (Ok c) (record { lines = []; rest = [] })
   pub all : after ≡ []
 
 abbrev pub FoundGives : Found → (before after : List ℕ) → Type 0
 FoundGives found.NoMemory before after = Unit {0}
-FoundGives (found.Refused why) before after = (form : Form) (defect : Option Fault) → outcome form Finished defect before ≡ bad_config why
+FoundGives (found.Refused why) before after = (given : Given) → TellsRefusals given → judged_job given Finished (job_of Finished before) ≡ bad_config why
 FoundGives (found.Config c follows.Lines) before after = Begins c before after
 FoundGives (found.Config c follows.Nothing) before after = BeginsEmpty c before after
 
@@ -69,7 +75,7 @@ FoundGives (found.Config c follows.Nothing) before after = BeginsEmpty c before 
 pub record HeadFails (before after : List ℕ) : Type 0 where
   pub front : List ℕ
   pub taken : before ≡ front ++ after
-  pub is : (form : Form) (defect : Option Fault) → outcome form Failed defect front ≡ said read_fault_text status.ReadFault
+  pub is : (given : Given) → judged_job given Failed (job_of Failed front) ≡ said read_fault_text status.ReadFault
 
 -- the set that a form asks for
 abbrev pub HasSet : Form → Option ParamSet → Config → Type 0

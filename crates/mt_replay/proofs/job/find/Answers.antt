@@ -1,6 +1,6 @@
 use Rattle.std.proofs.Common.{◌∙◌, ap, sym, subst, List, ℕ}
 use Rattle.mt_replay.specs.Input.{Finished, Whole}
-use Rattle.mt_replay.specs.Outcome.{by_job}
+use Rattle.mt_replay.specs.Outcome.{judged_job}
 use Rattle.mt_replay.specs.Inner.Jobs.{IsFound}
 use Rattle.mt_port.proofs.StreamLemmas.{WhereTold-map}
 use Rattle.mt_replay.proofs.Jobs.{found_follows, found_empty, found_whole, found_long, head_fails}
@@ -23,7 +23,7 @@ pub returns-in-Ok-Whole-clause-ok : goal.returns-in-Ok-Whole-clause-ok
 returns-in-Ok-Whole-clause-ok g c =
     let head = rw c.in-Ok-Whole.field-0-is at c.in-Ok-Whole.ensures.ok in
     let kept = c.deref-in-Ok-Whole.ensures.value in
-    WhereTold-map _ _ head (λ x y h. found_whole _ x y c.whole_refused.result (λ form defect. ap (λ (l : List ℕ). by_job form Finished defect (Whole l)) (sym kept) ∙ c.whole_refused.ensures form defect) h)
+    WhereTold-map _ _ head (λ x y h. found_whole _ x y c.whole_refused.result (λ given. ap (λ (l : List ℕ). judged_job given Finished (Whole l)) (sym kept) ∙ c.whole_refused.ensures given) h)
 
 pub returns-in-Ok-TooLong-clause-ok : goal.returns-in-Ok-TooLong-clause-ok
 returns-in-Ok-TooLong-clause-ok g c =
