@@ -8,6 +8,8 @@ use Rattle.mt_cut.specs.Cuts.{first_above, longest_runs, LongestRunsAreUnder, Lo
 use Rattle.mt_cut.specs.Atomic.{largest}
 use Rattle.mt_conf.specs.declared.config.Config.{Config}
 use Rattle.mt_replay.specs.declared.form.Ask.{Ask}
+use Rattle.mt_replay.specs.declared.form.Asked.{Asked}
+use Rattle.mt_replay.specs.declared.form.Asked.TheVariants as asks
 use Rattle.mt_replay.specs.declared.form.Form.{Form}
 use Rattle.mt_replay.specs.declared.form.Form.TheVariants as forms
 use Rattle.mt_replay.specs.declared.run.End.{End}
@@ -37,10 +39,11 @@ ticks_are_least under least ask defect bytes config script c set job is done the
       is = ap (λ (o : Outcome). o.text) given ∙ ap (λ (e : End). end_text (forms.Cut ask) c e) whole.1 ∙ ap (chosen_text ask) there ∙ set-text ask set none;
     }
 
-pub tells_least_ticks : LongestRunsAreUnder → LongestRunsAreLeast → (form : Option Form) (defect : Option Fault) → TellsLeastTicks form defect
+pub tells_least_ticks : LongestRunsAreUnder → LongestRunsAreLeast → (asked : Option Asked) (defect : Option Fault) → TellsLeastTicks asked defect
 tells_least_ticks under least None defect = tt
-tells_least_ticks under least (Some forms.Run) defect = tt
-tells_least_ticks under least (Some forms.Check) defect = tt
-tells_least_ticks under least (Some forms.Format) defect = tt
-tells_least_ticks under least (Some forms.Migrate) defect = tt
-tells_least_ticks under least (Some (forms.Cut ask)) defect = ticks_are_least under least ask defect
+tells_least_ticks under least (Some (asks.Job forms.Run)) defect = tt
+tells_least_ticks under least (Some (asks.Job forms.Check)) defect = tt
+tells_least_ticks under least (Some (asks.Job forms.Format)) defect = tt
+tells_least_ticks under least (Some (asks.Job forms.Migrate)) defect = tt
+tells_least_ticks under least (Some (asks.Job (forms.Cut ask))) defect = ticks_are_least under least ask defect
+tells_least_ticks under least (Some asks.Locate) defect = tt

@@ -13,6 +13,7 @@ use Rattle.mt_fault.specs.declared.fault.Fault.{Fault as MemoryFault}
 use Rattle.mt_blocks.specs.declared.config.ParamSet.{ParamSet}
 use Rattle.mt_text.specs.declared.line.Line.{Line}
 use Rattle.mt_conf.specs.declared.config.Config.{Config}
+use Rattle.mt_replay.specs.declared.form.Asked.{Asked}
 use Rattle.mt_replay.specs.declared.form.Form.{Form}
 use Rattle.mt_replay.specs.declared.form.Form.TheVariants as forms
 use Rattle.mt_replay.specs.declared.form.Task.{Task}
@@ -35,7 +36,7 @@ use Rattle.mt_replay.specs.Outcome.{Outcome, Play, configured, judged_job, steps
 use Rattle.mt_replay.specs.Changes.{Change, change, UsesBoard}
 use Rattle.mt_replay.specs.Inner.Runs.{outputs, place, Answered, EndsAt, BeginsWith, EndCaused}
 use Rattle.mt_replay.specs.Inner.Jobs.{Given, TellsRefusals, IsFound, HasBehind, FoundGives, Begins, BeginsEmpty, HeadFails, HasSet, IsTask, closing_of, task_end, BeginsAs, IsBegun, BeginFails}
-use Rattle.mt_replay.specs.Replay.{Outcomes, outcomes, BoardIs, Concluded, TakenGive, JobGives, StatusCaused, Told, Stood, Completes}
+use Rattle.mt_replay.specs.Replay.{Outcomes, outcomes, asked_outcomes, BoardIs, Concluded, TakenGive, JobGives, StatusCaused, Told, Stood, Completes}
 use Rattle.mt_replay.proofs.Plays.{lines_text-append}
 
 -- what is left before and between, and between and after
@@ -136,7 +137,7 @@ GivesAt (end.Whole count) given o before rest = (given Finished before ≡ o) ×
 GivesAt (end.Refused line code at) given o before rest = given Finished before ≡ o
 GivesAt end.Broken given o before rest = TakenGive given o before rest
 
-nothing_behind : (xs ys : List ℕ) → xs ++ ys ≡ [] → ys ≡ []
+pub nothing_behind : (xs ys : List ℕ) → xs ++ ys ≡ [] → ys ≡ []
 nothing_behind [] ys n = n
 nothing_behind (x ∷ xs) ys n = cc
 
@@ -204,7 +205,7 @@ board_is forms.Migrate c defect m m' before was tape tape' play begins uses afte
 board_is (forms.Cut ask) c defect m m' before was tape tape' play begins uses after taped = (uses.0 ∙ begins.0, uses.1 ∙ begins.1)
 
 -- a whole text was told
-whole_job : (e : End) (given : Outcomes) (o : Outcome) (old new : Board) (source source' : ℕ) (a left h h' : Option (List ℕ)) (was tape' : Option (List Touch)) → o.status ≡ end_status e
+pub whole_job : (e : End) (given : Outcomes) (o : Outcome) (old new : Board) (source source' : ℕ) (a left h h' : Option (List ℕ)) (was tape' : Option (List Touch)) → o.status ≡ end_status e
     → WhereTold a left (GivesAt e given o) → Appends h h' o.text → BoardIs o.after old new was tape' → JobGives (end_status e) given old new source source' (change a left h h' was tape')
 whole_job (end.Whole count) given o old new source source' a left h h' was tape' how is written board = (
   record { outcome = o; status = how; written = written; is = WhereTold-map a left is (λ x y g. g.0); board = board },
@@ -214,7 +215,7 @@ whole_job (end.Refused line code at) given o old new source source' a left h h' 
 whole_job end.Broken given o old new source source' a left h h' was tape' how is written board = record { outcome = o; status = how; written = written; is = is; board = board }
 
 -- the sink failed in it
-cut_job : (e : End) (given : Outcomes) (o : Outcome) (old new : Board) (source source' : ℕ) (a left h h' : Option (List ℕ)) (was tape' : Option (List Touch))
+pub cut_job : (e : End) (given : Outcomes) (o : Outcome) (old new : Board) (source source' : ℕ) (a left h h' : Option (List ℕ)) (was tape' : Option (List Touch))
     → WhereTold a left (GivesAt e given o) → EndCaused e source source' → AppendsFront h h' o.text → JobGives status.WriteFault given old new source source' (change a left h h' was tape')
 cut_job (end.Whole count) given o old new source source' a left h h' was tape' is cause written =
     record { text = o.text; written = written; defined = WhereTold-map a left is (λ x y g. inl (cause, [], ap (λ (r : Outcome). r.text) g.0 ∙ sym (append-nil o.text))) }
@@ -402,13 +403,13 @@ not-risen k k' stood rose = omega (arith, stood.0, stood.1, rose)
 other-end : (how : Status) (given : Outcomes) (old new : Board) (x : Change) (bytes : List ℕ) → x.left ≡ Some bytes → Concluded given how old new x → (given Finished bytes).status ≡ status.Done → how ≡ status.Done
 other-end how given old new x bytes e c done = sym c.status ∙ sym (ap (λ (o : Outcome). o.status) (told-at x.left x.left' _ bytes e c.is).1) ∙ done
 
-pub completes : (result : Status) (form : Form) (defect : Option MemoryFault) (old new : Board) (source source' sink sink' : ℕ) (x : Change) → JobGives result (outcomes form defect) old new source source' x
-    → StatusCaused result source source' sink sink' → Completes (Some form) result defect x.left source source' sink sink'
-completes status.Done form defect old new k k' s s' x gives cause source sink bytes e done = inl refl
-completes (status.BadConfig code) form defect old new k k' s s' x gives cause source sink bytes e done = inl (other-end (status.BadConfig code) (outcomes form defect) old new x bytes e gives done)
-completes (status.BadScript line code at) form defect old new k k' s s' x gives cause source sink bytes e done =
-    inl (other-end (status.BadScript line code at) (outcomes form defect) old new x bytes e gives done)
-completes status.ReadFault form defect old new k k' s s' x gives cause source sink bytes e done = absurd (not-risen k k' source cause.0)
-completes status.WriteFault form defect old new k k' s s' x gives cause source sink bytes e done = absurd (not-risen s s' sink cause.0)
-completes status.NoMemory form defect old new k k' s s' x gives cause source sink bytes e done = inr refl
-completes status.Usage form defect old new k k' s s' x gives cause source sink bytes e done = absurd gives
+pub completes : (result : Status) (asked : Asked) (defect : Option MemoryFault) (old new : Board) (source source' sink sink' : ℕ) (x : Change) → JobGives result (asked_outcomes asked defect) old new source source' x
+    → StatusCaused result source source' sink sink' → Completes (Some asked) result defect x.left source source' sink sink'
+completes status.Done asked defect old new k k' s s' x gives cause source sink bytes e done = inl refl
+completes (status.BadConfig code) asked defect old new k k' s s' x gives cause source sink bytes e done = inl (other-end (status.BadConfig code) (asked_outcomes asked defect) old new x bytes e gives done)
+completes (status.BadScript line code at) asked defect old new k k' s s' x gives cause source sink bytes e done =
+    inl (other-end (status.BadScript line code at) (asked_outcomes asked defect) old new x bytes e gives done)
+completes status.ReadFault asked defect old new k k' s s' x gives cause source sink bytes e done = absurd (not-risen k k' source cause.0)
+completes status.WriteFault asked defect old new k k' s s' x gives cause source sink bytes e done = absurd (not-risen s s' sink cause.0)
+completes status.NoMemory asked defect old new k k' s s' x gives cause source sink bytes e done = inr refl
+completes status.Usage asked defect old new k k' s s' x gives cause source sink bytes e done = absurd gives

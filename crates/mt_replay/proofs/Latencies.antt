@@ -27,6 +27,8 @@ use Rattle.mt_replay.specs.declared.event.FlsRunning.{FlsRunning}
 use Rattle.mt_replay.specs.declared.event.FlsRunning.TheVariants as fls_calls
 use Rattle.mt_ram.specs.Table.{MainFunction}
 use Rattle.mt_fls.specs.Table as fls_table
+use Rattle.mt_replay.specs.declared.form.Asked.{Asked}
+use Rattle.mt_replay.specs.declared.form.Asked.TheVariants as asks
 use Rattle.mt_replay.specs.declared.form.Form.{Form}
 use Rattle.mt_replay.specs.declared.form.Form.TheVariants as forms
 use Rattle.mt_replay.specs.declared.refused.Refused.TheVariants as because
@@ -131,7 +133,8 @@ job-short calls form Failed defect (Whole bytes) = of (nat_le 65542 (length byte
     of true = All-none
     of false = All-none
 
-pub are_served_in_time : RunningCalls → (form : Option Form) (defect : Option Fault) → AreServedInTime form defect
+pub are_served_in_time : RunningCalls → (asked : Option Asked) (defect : Option Fault) → AreServedInTime asked defect
 unfolding outcome
 are_served_in_time calls None defect = tt
-are_served_in_time calls (Some form) defect = λ ending bytes. job-short calls form ending defect (job_of ending bytes)
+are_served_in_time calls (Some (asks.Job form)) defect = λ ending bytes. job-short calls form ending defect (job_of ending bytes)
+are_served_in_time calls (Some asks.Locate) defect = tt

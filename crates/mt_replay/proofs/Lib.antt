@@ -6,6 +6,7 @@ pub mod Plays
 pub mod Taken
 pub mod Defects
 pub mod Runs
+pub mod LocatedLines
 pub mod Turns
 pub mod Services
 pub mod Jobs
@@ -19,3 +20,4 @@ pub mod Cuts
 pub mod Plain
 pub mod Memories
 pub mod PlainMemories
+pub mod Locates

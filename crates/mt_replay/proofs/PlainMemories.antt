@@ -43,7 +43,8 @@ use Rattle.mt_replay.specs.declared.event.Running.{Running}
 use Rattle.mt_replay.specs.declared.event.Running.TheVariants as rams
 use Rattle.mt_replay.specs.declared.event.FlsRunning.{FlsRunning}
 use Rattle.mt_replay.specs.declared.event.FlsRunning.TheVariants as fls_calls
-use Rattle.mt_replay.specs.declared.form.Form.{Form}
+use Rattle.mt_replay.specs.declared.form.Asked.{Asked}
+use Rattle.mt_replay.specs.declared.form.Asked.TheVariants as asks
 use Rattle.mt_replay.specs.declared.form.Form.TheVariants as forms
 use Rattle.mt_replay.specs.declared.refused.Refused.TheVariants as because
 use Rattle.mt_replay.specs.Input.{Job, job_of}
@@ -212,10 +213,12 @@ replays_are_plain known attempts accepted defect ending bytes text script c job 
     ∙ ap (λ (r : Result Config ConfigRefusal). steps (configured forms.Run ending defect r script)) is))
     (played-plain known attempts m.modules.ram.setting (marches, λ set block. keeps-at c.ram_tst.sets set block keeps) m lines none (record { fault = sound; setting = refl }))
 
-pub leaves_no_trace : LeaveNoTrace → Attempts → AcceptedIsTaken → (form : Option Form) (defect : Option Fault) → LeavesNoTrace form defect
+pub leaves_no_trace : LeaveNoTrace → Attempts → AcceptedIsTaken → (asked : Option Asked) (defect : Option Fault) → LeavesNoTrace asked defect
 leaves_no_trace known attempts accepted None defect = tt
-leaves_no_trace known attempts accepted (Some forms.Run) defect = (replays_leave_no_trace known accepted defect, replays_are_plain known attempts accepted defect)
-leaves_no_trace known attempts accepted (Some forms.Check) defect = tt
-leaves_no_trace known attempts accepted (Some forms.Format) defect = tt
-leaves_no_trace known attempts accepted (Some forms.Migrate) defect = tt
-leaves_no_trace known attempts accepted (Some (forms.Cut ask)) defect = tt
+leaves_no_trace known attempts accepted (Some (asks.Job forms.Run)) defect =
+    (replays_leave_no_trace known accepted defect, replays_are_plain known attempts accepted defect)
+leaves_no_trace known attempts accepted (Some (asks.Job forms.Check)) defect = tt
+leaves_no_trace known attempts accepted (Some (asks.Job forms.Format)) defect = tt
+leaves_no_trace known attempts accepted (Some (asks.Job forms.Migrate)) defect = tt
+leaves_no_trace known attempts accepted (Some (asks.Job (forms.Cut ask))) defect = tt
+leaves_no_trace known attempts accepted (Some asks.Locate) defect = tt

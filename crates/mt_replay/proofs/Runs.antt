@@ -278,7 +278,7 @@ past-from shape [] (byte ∷ bytes) some = refl
 past-from shape (first ∷ more) rest some = refl
 
 -- some bytes are a line or a part of one
-cut-some : (bytes : List ℕ) → 0 < length bytes → (cut bytes).lines ≡ [] → (cut bytes).rest ≢ []
+pub cut-some : (bytes : List ℕ) → 0 < length bytes → (cut bytes).lines ≡ [] → (cut bytes).rest ≢ []
 cut-some [] h e f = omega arith
 cut-some (byte ∷ bytes) h e f = elim (feed_or_not byte) [
   | inl is ↦ (let lines : (cut (byte ∷ bytes)).lines ≡ [] ∷ (cut bytes).lines = ap (λ (b : Bool). (cond b (led [] (cut bytes)) (begun byte (cut bytes).lines (cut bytes).rest)).lines) is.0 in cc)
@@ -290,7 +290,7 @@ cut-some (byte ∷ bytes) h e f = elim (feed_or_not byte) [
     some_begun byte [] rest e f = cc
     some_begun byte (first ∷ more) rest e f = cc
 
-told-some : (left : Option (List ℕ)) (held : List ℕ) → 0 < length held → WhereTold (prepend_known held left) (prepend_known held left) (λ before after. 0 < length before)
+pub told-some : (left : Option (List ℕ)) (held : List ℕ) → 0 < length held → WhereTold (prepend_known held left) (prepend_known held left) (λ before after. 0 < length before)
 told-some None held h = tt
 told-some (Some xs) held h = omega (arith, length-append held xs)
 

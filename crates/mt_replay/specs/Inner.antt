@@ -4,3 +4,5 @@ pub mod Head
 pub mod Events
 pub mod Runs
 pub mod Jobs
+pub mod Locating
+pub mod Locates

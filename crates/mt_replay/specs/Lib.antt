@@ -4,6 +4,8 @@ pub mod Machine
 pub mod Script
 pub mod Cut
 pub mod Outcome
+pub mod Locating
+pub mod Locate
 pub mod Changes
 pub mod Latency
 pub mod Plain

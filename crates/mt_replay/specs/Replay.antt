@@ -10,6 +10,8 @@ use Rattle.mt_port.specs.declared.board.Touch.{Touch}
 use Rattle.mt_fault.specs.declared.fault.Fault.{Fault}
 use Rattle.mt_text.specs.Tokens.{number_of}
 use Rattle.mt_replay.specs.declared.form.Ask.{Ask}
+use Rattle.mt_replay.specs.declared.form.Asked.{Asked}
+use Rattle.mt_replay.specs.declared.form.Asked.TheVariants as asks
 use Rattle.mt_replay.specs.declared.form.Form.{Form}
 use Rattle.mt_replay.specs.declared.form.Form.TheVariants as forms
 use Rattle.mt_replay.specs.declared.status.Status.{Status}
@@ -18,30 +20,32 @@ use Rattle.mt_replay.specs.Input.{Ending, Finished, Failed}
 use Rattle.mt_replay.specs.Outcome.{After, Outcome, outcome}
 use Rattle.mt_replay.specs.Changes.{Change, UsesBoard}
 use Rattle.mt_replay.specs.Latency.{ServesInTime}
+use Rattle.mt_replay.specs.Locate.{locating, LocatingIsExact}
 use Rattle.mt_replay.specs.Plain.{ReplaysLeaveNoTrace}
 use Rattle.mt_replay.specs.Memory.{ReplaysArePlain}
 use Rattle.mt_replay.specs.Ticks.{TicksAreLeast}
 
 -- ---- the words
 
--- the form of a job that a word asks for, if it is one
-abbrev pub form_named : List ℕ → Option Form
+-- what a word asks for, if it is a form
+abbrev pub form_named : List ℕ → Option Asked
 form_named name =
-    if bytes_eq name (codes "run") then Some forms.Run
-    else (if bytes_eq name (codes "check") then Some forms.Check
-    else (if bytes_eq name (codes "fmt") then Some forms.Format
-    else (if bytes_eq name (codes "migrate") then Some forms.Migrate else None)))
+    if bytes_eq name (codes "run") then Some (asks.Job forms.Run)
+    else (if bytes_eq name (codes "check") then Some (asks.Job forms.Check)
+    else (if bytes_eq name (codes "fmt") then Some (asks.Job forms.Format)
+    else (if bytes_eq name (codes "migrate") then Some (asks.Job forms.Migrate)
+    else (if bytes_eq name (codes "locate") then Some asks.Locate else None))))
 
 -- what a word and three numbers ask for, if the word is `cut` and the numbers are spelled as those of script lines
-abbrev pub ask_of : Option ℕ → Option ℕ → Option ℕ → Option Form
-ask_of (Some set) (Some budget) (Some wait) = Some (forms.Cut (record { set = set; budget = budget; wait = wait }))
+abbrev pub ask_of : Option ℕ → Option ℕ → Option ℕ → Option Asked
+ask_of (Some set) (Some budget) (Some wait) = Some (asks.Job (forms.Cut (record { set = set; budget = budget; wait = wait })))
 ask_of set budget wait = None
 
-abbrev pub ask_named : (name set budget wait : List ℕ) → Option Form
+abbrev pub ask_named : (name set budget wait : List ℕ) → Option Asked
 ask_named name set budget wait = if bytes_eq name (codes "cut") then ask_of (number_of set) (number_of budget) (number_of wait) else None
 
 -- what the words ask for, if they are a form
-abbrev pub form_of : List (String Global) → Option Form
+abbrev pub form_of : List (String Global) → Option Asked
 form_of [] = None
 form_of (word ∷ []) = form_named (string_bytes word)
 form_of (word ∷ set ∷ []) = None
@@ -60,6 +64,11 @@ Outcomes = Ending → List ℕ → Outcome
 
 abbrev pub outcomes : Form → Option Fault → Outcomes
 outcomes form defect ending bytes = outcome form ending defect bytes
+
+-- what is asked for
+abbrev pub asked_outcomes : Asked → Option Fault → Outcomes
+asked_outcomes (asks.Job form) defect = outcomes form defect
+asked_outcomes asks.Locate defect = locating
 
 -- The board is as the outcome says. Where a script was begun, its tape begins with the power-up.
 abbrev pub BoardIs : Option After → (old new : Board) → (tape tape' : Option (List Touch)) → Type 0
@@ -125,8 +134,8 @@ abbrev pub Told : Status → (how : Status) → (text : List ℕ) → (held held
 Told result how text held held' sink sink' = ((result ≡ how) × Wrote text held held' sink sink') ⊎ ((result ≡ status.WriteFault) × Failing text held held' sink sink')
 
 -- Words that are no form leave the source, and are told; a form does what it asks for with the job.
-abbrev pub Replays : Option Form → Status → Option Fault → (old new : Board) → (source source' sink sink' : ℕ) → Change → Type 0
-Replays (Some form) result defect old new source source' sink sink' x = JobGives result (outcomes form defect) old new source source' x
+abbrev pub Replays : Option Asked → Status → Option Fault → (old new : Board) → (source source' sink sink' : ℕ) → Change → Type 0
+Replays (Some asked) result defect old new source source' sink sink' x = JobGives result (asked_outcomes asked defect) old new source source' x
 Replays None result defect old new source source' sink sink' x = Told result status.Usage usage_text x.held x.held' sink sink' × (x.left' ≡ x.left)
 
 -- ---- what else holds
@@ -138,9 +147,10 @@ StatusCaused status.WriteFault source source' sink sink' = Rose sink sink' × ((
 StatusCaused how source source' sink sink' = (source' ≡ source) × (sink' ≡ sink)
 
 -- only a replay uses the board, whatever becomes of the other forms
-abbrev pub LeavesBoard : Option Form → (old new : Board) → (tape tape' : Option (List Touch)) → Type 0
+abbrev pub LeavesBoard : Option Asked → (old new : Board) → (tape tape' : Option (List Touch)) → Type 0
 LeavesBoard None old new tape tape' = (new ≡ old) × (tape' ≡ tape)
-LeavesBoard (Some form) old new tape tape' = UsesBoard form old new tape tape'
+LeavesBoard (Some (asks.Job form)) old new tape tape' = UsesBoard form old new tape tape'
+LeavesBoard (Some asks.Locate) old new tape tape' = (new ≡ old) × (tape' ≡ tape)
 
 -- the board is as before, or it was powered up: then nothing is held, and no request is left
 abbrev pub IsLeftFree : (old new : Board) → Type 0
@@ -151,31 +161,29 @@ abbrev pub Stood : ℕ → ℕ → Type 0
 Stood before now = (now ≡ before) × (before < 2 ^ 64 - 1)
 
 -- Where neither stream failed, an accepted job ends in Done, or no memory was found.
-abbrev pub Completes : Option Form → Status → Option Fault → (left : Option (List ℕ)) → (source source' sink sink' : ℕ) → Type 0
+abbrev pub Completes : Option Asked → Status → Option Fault → (left : Option (List ℕ)) → (source source' sink sink' : ℕ) → Type 0
 Completes None result defect left source source' sink sink' = Unit {0}
-Completes (Some form) result defect left source source' sink sink' =
-    Stood source source' → Stood sink sink' → (bytes : List ℕ) → left ≡ Some bytes → (outcome form Finished defect bytes).status ≡ status.Done
+Completes (Some asked) result defect left source source' sink sink' =
+    Stood source source' → Stood sink sink' → (bytes : List ℕ) → left ≡ Some bytes → (asked_outcomes asked defect Finished bytes).status ≡ status.Done
     → (result ≡ status.Done) ⊎ (result ≡ status.NoMemory)
 
 -- Whatever bytes a job has, the requests of each step are served in time.
-abbrev pub AreServedInTime : Option Form → Option Fault → Type 0
+abbrev pub AreServedInTime : Option Asked → Option Fault → Type 0
 AreServedInTime None defect = Unit {0}
-AreServedInTime (Some form) defect = (ending : Ending) (bytes : List ℕ) → All ServesInTime (outcome form ending defect bytes).steps
+AreServedInTime (Some (asks.Job form)) defect = (ending : Ending) (bytes : List ℕ) → All ServesInTime (outcome form ending defect bytes).steps
+AreServedInTime (Some asks.Locate) defect = Unit {0}
 
 -- On sound memory no test of a replay touches a word of the application; where no block is destructive, the application finds a plain memory.
-abbrev pub LeavesNoTrace : Option Form → Option Fault → Type 0
-LeavesNoTrace None defect = Unit {0}
-LeavesNoTrace (Some forms.Run) defect = ReplaysLeaveNoTrace defect × ReplaysArePlain defect
-LeavesNoTrace (Some forms.Check) defect = Unit {0}
-LeavesNoTrace (Some forms.Format) defect = Unit {0}
-LeavesNoTrace (Some forms.Migrate) defect = Unit {0}
-LeavesNoTrace (Some (forms.Cut ask)) defect = Unit {0}
+abbrev pub LeavesNoTrace : Option Asked → Option Fault → Type 0
+LeavesNoTrace (Some (asks.Job forms.Run)) defect = ReplaysLeaveNoTrace defect × ReplaysArePlain defect
+LeavesNoTrace asked defect = Unit {0}
+
+-- Where a slice and what was missed there are given, the faults that explain it are listed, and no others.
+abbrev pub ListsWhatExplains : Option Asked → Type 0
+ListsWhatExplains (Some asks.Locate) = LocatingIsExact
+ListsWhatExplains asked = Unit {0}
 
 -- Where the cuts of a set are asked for, no cut under the budget has fewer ticks than are told.
-abbrev pub TellsLeastTicks : Option Form → Option Fault → Type 0
-TellsLeastTicks None defect = Unit {0}
-TellsLeastTicks (Some forms.Run) defect = Unit {0}
-TellsLeastTicks (Some forms.Check) defect = Unit {0}
-TellsLeastTicks (Some forms.Format) defect = Unit {0}
-TellsLeastTicks (Some forms.Migrate) defect = Unit {0}
-TellsLeastTicks (Some (forms.Cut ask)) defect = TicksAreLeast ask defect
+abbrev pub TellsLeastTicks : Option Asked → Option Fault → Type 0
+TellsLeastTicks (Some (asks.Job (forms.Cut ask))) defect = TicksAreLeast ask defect
+TellsLeastTicks asked defect = Unit {0}

@@ -23,6 +23,13 @@ pub enum Form {
     Cut(Ask),
 }
 
+/// What the words ask for: a form that takes a script, or the faults that explain what was missed in a slice.
+#[derive(Clone, Copy, Debug, PartialEq, Eq)]
+pub enum Asked {
+    Job(Form),
+    Locate,
+}
+
 /// How the lines of a script are taken: the form, the shape of the memory for which they are read, and for `cut` the set
 /// that it asks for.
 #[derive(Drop)]

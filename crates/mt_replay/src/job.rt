@@ -74,8 +74,8 @@ fn whole_refused(bytes: &[u8]) -> Refused
     }
 }
 
-// Reads the configuration.
-fn find<S: Source>(
+/// Reads the configuration.
+pub(crate) fn find<S: Source>(
     alloc: Global,
     input: &mut Input,
     source: &mut S,
@@ -126,8 +126,8 @@ pub(crate) fn tell<K: Sink>(sink: &mut K, text: &[u8], status: Status) -> Status
     }
 }
 
-// Writes the text of a refused configuration.
-fn tell_refused<K: Sink>(sink: &mut K, why: &Refused) -> Status
+/// Writes the text of a refused configuration.
+pub(crate) fn tell_refused<K: Sink>(sink: &mut K, why: &Refused) -> Status
     ensures { Told result (Status.BadConfig (number_of_rule why.now)) (bad_config_text why.now) (K.held sink.old)
         (K.held sink.new) (K.faults sink.old) (K.faults sink.new) }
 {

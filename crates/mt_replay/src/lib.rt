@@ -8,6 +8,8 @@ mod head;
 mod input;
 mod job;
 mod laws;
+mod locate;
+mod locating;
 mod modules;
 mod refused;
 mod run;

@@ -1,6 +1,7 @@
 //! The lines that close a trace.
 
 ghost use Rattle.std.specs.Prelude.{◌≡◌, codes, ◌++◌};
+ghost use Rattle.mt_replay.specs.Locate.{count_text};
 ghost use Rattle.mt_replay.specs.Outcome.{done_text, refused_text, bad_config_text};
 
 use crate::refused::Refused;
@@ -32,6 +33,17 @@ pub fn refused_text(line: u32, code: u8, place: u32) -> Text
     push_number(&mut text, u32::from(code));
     push_bytes(&mut text, b" ");
     push_number(&mut text, place);
+    push_bytes(&mut text, b"\n");
+    text
+}
+
+/// The line that says how many faults there are.
+pub fn found_line(count: u32) -> Text
+    ensures { result.items ≡ count_text count }
+{
+    let mut text = ArrayVec::new();
+    push_bytes(&mut text, b"found ");
+    push_number(&mut text, count);
     push_bytes(&mut text, b"\n");
     text
 }

@@ -2,16 +2,18 @@
 
 ghost use Rattle.std.specs.Prelude.{◌≡◌};
 ghost use Rattle.mt_replay.specs.Changes.{change};
-ghost use Rattle.mt_replay.specs.Replay.{form_named, ask_of, ask_named, form_of, Replays, StatusCaused, LeavesBoard, IsLeftFree, Completes, AreServedInTime, LeavesNoTrace, TellsLeastTicks};
+ghost use Rattle.mt_replay.specs.Replay.{form_named, ask_of, ask_named, form_of, Replays, StatusCaused, LeavesBoard, IsLeftFree, Completes, AreServedInTime, LeavesNoTrace, ListsWhatExplains, TellsLeastTicks};
 
-use crate::form::{Ask, Form};
+use crate::form::{Ask, Asked, Form};
 use crate::job::{replay_job, tell};
+use crate::locate::locate_job;
 use crate::status::Status;
 use mt_conf::accepted_is_taken;
 use mt_cut::longest_runs_are_least;
 use mt_fls::{
     running_calls_keep_the_board as fls_keeps_the_board, waits_of_running_calls as fls_waits,
 };
+use mt_locate::{explaining_is_tested, faults_of_the_slice_are_listed};
 use mt_port::{Bench, Sink, Source};
 use mt_ram::{
     running_calls_keep_the_board as ram_keeps_the_board, running_calls_leave_setting,
@@ -21,38 +23,41 @@ use mt_seq::attempts_on_sound_memory;
 use mt_text::number_of;
 use std::alloc::Global;
 
-// The form of a job that a word asks for.
-fn form_named(word: &[u8]) -> Option<Form>
+// What a word asks for.
+fn form_named(word: &[u8]) -> Option<Asked>
     ensures { result ≡ form_named word.now }
 {
     if word == b"run".as_slice() {
-        return Some(Form::Run);
+        return Some(Asked::Job(Form::Run));
     }
     if word == b"check".as_slice() {
-        return Some(Form::Check);
+        return Some(Asked::Job(Form::Check));
     }
     if word == b"fmt".as_slice() {
-        return Some(Form::Format);
+        return Some(Asked::Job(Form::Format));
     }
     if word == b"migrate".as_slice() {
-        return Some(Form::Migrate);
+        return Some(Asked::Job(Form::Migrate));
+    }
+    if word == b"locate".as_slice() {
+        return Some(Asked::Locate);
     }
     None
 }
 
 // A set, a budget and a wait, where all three are numbers.
-fn ask_of(set: Option<u32>, budget: Option<u32>, wait: Option<u32>) -> Option<Form>
+fn ask_of(set: Option<u32>, budget: Option<u32>, wait: Option<u32>) -> Option<Asked>
     ensures { result ≡ ask_of set budget wait }
 {
-    Some(Form::Cut(Ask {
+    Some(Asked::Job(Form::Cut(Ask {
         set: set?,
         budget: budget?,
         wait: wait?,
-    }))
+    })))
 }
 
 // What a word and three numbers ask for.
-fn ask_named(word: &[u8], set: &[u8], budget: &[u8], wait: &[u8]) -> Option<Form>
+fn ask_named(word: &[u8], set: &[u8], budget: &[u8], wait: &[u8]) -> Option<Asked>
     ensures { result ≡ ask_named word.now set.now budget.now wait.now }
 {
     if word == b"cut".as_slice() {
@@ -61,7 +66,7 @@ fn ask_named(word: &[u8], set: &[u8], budget: &[u8], wait: &[u8]) -> Option<Form
     None
 }
 
-fn form_of(words: &[String]) -> Option<Form>
+fn form_of(words: &[String]) -> Option<Asked>
     ensures { result ≡ form_of words.now }
 {
     match words {
@@ -80,7 +85,8 @@ fn form_of(words: &[String]) -> Option<Form>
 /// writes its trace to the sink; `check` reads a job and writes the closing line alone; `fmt` reads a job and writes it
 /// in canonical form, without a closing line; `migrate` does so with a configuration of version 2; `cut S T L` reads a job
 /// and writes the fewest ticks in which a pass over its set S may be cut with at most T accesses per tick, and the greatest
-/// slice for which no request waits longer than L accesses. All other words answer `Usage`. Memory is taken before the
+/// slice for which no request waits longer than L accesses; `locate` reads a configuration, a slice and what was missed
+/// there, and writes the single faults that explain it. All other words answer `Usage`. Memory is taken before the
 /// first byte is written.
 pub fn replay<S: Source, K: Sink, B: Bench>(
     alloc: Global,
@@ -109,11 +115,16 @@ pub fn replay<S: Source, K: Sink, B: Bench>(
     // destructive block: the same answers, waits and results, and the same words after each line. Where no block is
     // destructive, each answer of the application is that of a plain memory on which its operations are done in script order.
     ensures transparent { LeavesNoTrace (form_of words.now) (B.state board.old).defect }
+    // Whatever bytes the input has, `locate` lists a fault exactly where it lies inside the slice and explains what was missed
+    // there, and each once.
+    ensures exact { ListsWhatExplains (form_of words.now) }
     // Whatever bytes the job has, no cut under the budget has fewer ticks than `cut` tells.
     ensures least { TellsLeastTicks (form_of words.now) (B.state board.old).defect }
 {
     // No cut under a budget has fewer ticks than the longest runs.
     longest_runs_are_least();
+    faults_of_the_slice_are_listed();
+    explaining_is_tested();
     ram_waits();
     fls_waits();
     // On sound memory tests leave no trace.
@@ -125,7 +136,8 @@ pub fn replay<S: Source, K: Sink, B: Bench>(
     ram_keeps_the_board();
     fls_keeps_the_board();
     match form_of(words) {
-        Some(form) => replay_job(alloc, form, source, sink, board),
+        Some(Asked::Job(form)) => replay_job(alloc, form, source, sink, board),
+        Some(Asked::Locate) => locate_job(alloc, source, sink),
         None => tell(sink, b"usage\n", Status::Usage),
     }
 }
