@@ -9,4 +9,5 @@ pub mod Culprits
 pub mod Suspicion
 pub mod LineWords
 pub mod Members
+pub mod Once
 pub mod Seen

@@ -31,18 +31,18 @@ has_from [] x k l e = absurd (omega (arith, l))
 has_from (y ∷ xs) x zero l e = inl e
 has_from (y ∷ xs) x (suc k) l e = inr (has_from xs x k (omega (arith, l)) e)
 
-split : {X : Type 0} (xs ys : List X) (x : X) → Has (xs ++ ys) x → Has xs x ⊎ Has ys x
+pub split : {X : Type 0} (xs ys : List X) (x : X) → Has (xs ++ ys) x → Has xs x ⊎ Has ys x
 split [] ys x h = inr h
 split (y ∷ xs) ys x (inl e) = inl (inl e)
 split (y ∷ xs) ys x (inr h) = elim (split xs ys x h) [ inl a ↦ inl (inr a) | inr b ↦ inr b ]
 
 -- what is mapped to an element
-of_map : {X Y : Type 0} (f : X → Y) (xs : List X) (y : Y) → Has (map f xs) y → (x : X) × Has xs x × (f x ≡ y)
+pub of_map : {X Y : Type 0} (f : X → Y) (xs : List X) (y : Y) → Has (map f xs) y → (x : X) × Has xs x × (f x ≡ y)
 of_map f [] y h = absurd h
 of_map f (x ∷ xs) y (inl e) = (x, inl refl, e)
 of_map f (x ∷ xs) y (inr h) = let r = of_map f xs y h in (r.0, inr r.1, r.2)
 
-of_flat_map : {X Y : Type 0} (f : X → List Y) (xs : List X) (y : Y) → Has (flat_map f xs) y → (x : X) × Has xs x × Has (f x) y
+pub of_flat_map : {X Y : Type 0} (f : X → List Y) (xs : List X) (y : Y) → Has (flat_map f xs) y → (x : X) × Has xs x × Has (f x) y
 of_flat_map f [] y h = absurd h
 of_flat_map f (x ∷ xs) y h = elim (split (f x) (flat_map f xs) y h) [
   | inl a ↦ (x, inl refl, a)
@@ -56,7 +56,7 @@ has_range a (suc n) x h l = elim (cases_eq a x) [
   | inr apart ↦ inr (has_range (a + 1) n x (omega (arith, h, apart)) (omega (arith, l)))
 ]
 
-of_range : (a n x : ℕ) → Has (range_with_len a n) x → (a ≤ x) × (x < a + n)
+pub of_range : (a n x : ℕ) → Has (range_with_len a n) x → (a ≤ x) × (x < a + n)
 of_range a zero x h = absurd h
 of_range a (suc n) x (inl e) = (omega (arith, e), omega (arith, e))
 of_range a (suc n) x (inr h) = let r = of_range (a + 1) n x h in let p = r.0 in let q = r.1 in (omega (arith, p), omega (arith, q))
@@ -182,16 +182,16 @@ has_word first n a w = has_range first n a w.from w.below
 
 -- ---- the whole list
 
-abbrev one : Width → ℕ → ℕ → List Fault
+abbrev pub one : Width → ℕ → ℕ → List Fault
 one width first n = flat_map (all_on_bit width first n) bit_kinds
 
-abbrev two : Width → ℕ → ℕ → List Fault
+abbrev pub two : Width → ℕ → ℕ → List Fault
 two width first n = flat_map (all_coupled width first n) coupling_kinds
 
-abbrev three : Width → ℕ → ℕ → List Fault
+abbrev pub three : Width → ℕ → ℕ → List Fault
 three width first n = flat_map (all_seen width) (range_with_len first n)
 
-abbrev four : Width → ℕ → ℕ → List Fault
+abbrev pub four : Width → ℕ → ℕ → List Fault
 four width first n = flat_map (all_crossed first n) cell_kinds
 
 sound : (width : Width) (first n : ℕ) (f : Fault) → Has (one width first n ++ two width first n ++ three width first n ++ four width first n) f → IsFaultOfSlice width first n f

@@ -1,5 +1,5 @@
 -- All faults of a slice in the order of their lines, and the lines of those that explain what was read.
-use Rattle.std.specs.Prelude.{ℕ, ◌+◌, ◌*◌, ◌/◌, ◌%◌, ◌^◌, ◌==◌, ◌&&◌, ◌↔◌, if◌then◌else◌, IsTrue, Bool, true, false, codes, List, [], ◌∷◌, ◌++◌, map, filter, Contains}
+use Rattle.std.specs.Prelude.{ℕ, ◌+◌, ◌*◌, ◌/◌, ◌%◌, ◌^◌, ◌==◌, ◌&&◌, ◌↔◌, if◌then◌else◌, IsTrue, Bool, true, false, codes, List, [], ◌∷◌, ◌++◌, map, filter, Contains, AllPairs, ◌≢◌}
 use Rattle.std.specs.List.{flat_map, range_with_len}
 use Rattle.std.specs.Cmp.Lexicographic.{pointwise}
 use Rattle.mt_word.specs.declared.Width.{Width}
@@ -92,6 +92,10 @@ faults_of width first n =
 -- the list has each fault of the slice, and no other
 abbrev pub FaultsOfTheSliceAreListed : Type 0
 FaultsOfTheSliceAreListed = (width : Width) (first n : ℕ) (f : Fault) → Contains (faults_of width first n) f ↔ IsFaultOfSlice width first n f
+
+-- no two faults of the list are one
+abbrev pub FaultsAreListedOnce : Type 0
+FaultsAreListedOnce = (width : Width) (first n : ℕ) → AllPairs ◌≢◌ (faults_of width first n)
 
 -- ---- the faults that explain
 

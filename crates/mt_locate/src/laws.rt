@@ -1,7 +1,7 @@
 //! Laws of faults of a slice.
 
 ghost use Rattle.mt_locate.specs.Explanations.{MissesAreThoseOfTheMemory};
-ghost use Rattle.mt_locate.specs.Listed.{ExplainsIsTested, FaultsOfTheSliceAreListed};
+ghost use Rattle.mt_locate.specs.Listed.{ExplainsIsTested, FaultsAreListedOnce, FaultsOfTheSliceAreListed};
 ghost use Rattle.mt_locate.specs.Moved.{FaultsStayWellPlaced};
 ghost use Rattle.mt_locate.specs.Suspects.{CulpritsAreSuspects, FirstMissTellsWhatIsSeen};
 
@@ -25,6 +25,11 @@ pub fn misses_are_those_of_the_memory()
 /// The list of all faults of a slice has each fault that lies inside it, and no other.
 pub fn faults_of_the_slice_are_listed()
     ensures { FaultsOfTheSliceAreListed }
+{}
+
+/// In that list no fault stands twice.
+pub fn faults_are_listed_once()
+    ensures { FaultsAreListedOnce }
 {}
 
 /// The faults of a list that explain the misses are those of the definition.

@@ -16,8 +16,9 @@ mod words;
 
 pub use explain::explains;
 pub use laws::{
-    culprits_are_suspects, explaining_is_tested, faults_of_a_slice_stay_well_placed,
-    faults_of_the_slice_are_listed, first_miss_tells_what_is_seen, misses_are_those_of_the_memory,
+    culprits_are_suspects, explaining_is_tested, faults_are_listed_once,
+    faults_of_a_slice_stay_well_placed, faults_of_the_slice_are_listed,
+    first_miss_tells_what_is_seen, misses_are_those_of_the_memory,
 };
 pub use list::list_faults;
 pub use miss_line::read_miss;
