@@ -5,7 +5,7 @@ ghost use Rattle.mt_word.specs.Word.{Fits};
 ghost use Rattle.mt_fault.specs.Items.{Store};
 ghost use Rattle.mt_plan.specs.Plan.{steps_of};
 ghost use Rattle.mt_seq.specs.Sequence.{back_of, is_transparent, last_of, saving, sequence_hold, IsSoundJob, IsSoundSlice};
-ghost use Rattle.mt_seq.specs.Stepping.{item_at, item_of_access, place_of, FitsAccess};
+ghost use Rattle.mt_seq.specs.Stepping.{item_at, item_of_access, place_of, FitsAccess, IsNoLook};
 
 use crate::access::{Access, access_of, word_of};
 use crate::course::{is_transparent, saving_reads};
@@ -23,6 +23,7 @@ fn tested_at(job: &Job, slice: Slice, width: Width, index: u32, saved: &[u64]) -
     ensures item { (differs : Bool) →
         item_at width (record { job = job.now; slice = slice; made = length (saving job.now.policy slice) + index; saved = saved.now; differs = differs })
         ≡ Some (item_of_access result) }
+    ensures kind { IsNoLook (item_of_access result) }
     ensures inside { place_of result < slice.first + slice.n }
     ensures fits { FitsAccess width result }
 {
@@ -65,6 +66,10 @@ pub fn access_at(job: &Job, slice: Slice, width: Width, index: u32, saved: &[u64
     requires whole { job.now.policy ≡ Policy.NonDestructive → slice.n ≤ index → slice.n ≤ length saved.now }
     ensures item { (differs : Bool) →
         item_at width (record { job = job.now; slice = slice; made = index; saved = saved.now; differs = differs }) ≡ Some (item_of_access result) }
+    // It is a saving read where the words are kept, up to the number of the slice's words.
+    ensures saving { job.now.policy ≡ Policy.NonDestructive → index < slice.n → result ≡ Access.Look (slice.first + index) }
+    ensures behind { slice.n ≤ index → IsNoLook (item_of_access result) }
+    ensures filling { job.now.policy ≡ Policy.Destructive → IsNoLook (item_of_access result) }
     ensures inside { place_of result < slice.first + slice.n }
     ensures fits { FitsAccess width result }
 {

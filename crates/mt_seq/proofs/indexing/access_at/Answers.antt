@@ -1,7 +1,7 @@
 use Rattle.std.proofs.Common.{◌≡◌, ◌+◌, ◌-◌, ◌<◌, ◌≤◌, ℕ, Some, arith, refl, ap, sym, ◌∙◌, length}
 use Rattle.mt_fault.specs.Items.{Store}
 use Rattle.mt_plan.specs.declared.algorithm.Policy.{Policy}
-use Rattle.mt_plan.specs.declared.algorithm.Policy.TheVariants.{NonDestructive}
+use Rattle.mt_plan.specs.declared.algorithm.Policy.TheVariants.{NonDestructive, Destructive}
 use Rattle.mt_plan.specs.Plan.{steps_of}
 use Rattle.mt_seq.specs.declared.sequence.Slice.{Slice}
 use Rattle.mt_seq.specs.declared.sequence.Job.{Job}
@@ -65,3 +65,22 @@ returns-else-index-ending_from-clause-item c = λ differs.
 pub returns-else-index-ending_from-clause-inside : goal.returns-else-index-ending_from-clause-inside
 returns-else-index-ending_from-clause-inside c =
     omega (arith, in_ending c.args.job.now c.args.slice c.args.index _ _ c.requires.within c.saving_reads-testing_from.ensures.count (rw c.from.ensures at c.steps.ensures.length) (omega arith))
+
+-- where the words are filled, there is no saving read
+none_saved : (job : Job) (slice : Slice) (from : ℕ) → job.policy ≡ Destructive → from ≡ length (saving job.policy slice) → from ≡ 0
+none_saved job slice from fills f = f ∙ ap (λ (p : Policy). length (saving p slice)) fills
+
+pub returns-then-index-testing_from-clause-behind : goal.returns-then-index-testing_from-clause-behind
+returns-then-index-testing_from-clause-behind c = λ behind. absurd (omega (arith, c.saving_reads-testing_from.ensures.few, c.if-index-testing_from.true))
+
+pub returns-then-index-testing_from-clause-filling : goal.returns-then-index-testing_from-clause-filling
+returns-then-index-testing_from-clause-filling c = λ fills.
+    absurd (omega (arith, none_saved c.args.job.now c.args.slice _ fills c.saving_reads-testing_from.ensures.count, c.if-index-testing_from.true))
+
+pub returns-then-index-ending_from-clause-saving : goal.returns-then-index-ending_from-clause-saving
+returns-then-index-ending_from-clause-saving c = λ keeps early.
+    absurd (omega (arith, all_saved c.args.job.now c.args.slice _ keeps c.saving_reads-testing_from.ensures.count, c.if-index-testing_from.false))
+
+pub returns-else-index-ending_from-clause-saving : goal.returns-else-index-ending_from-clause-saving
+returns-else-index-ending_from-clause-saving c = λ keeps early.
+    absurd (omega (arith, all_saved c.args.job.now c.args.slice _ keeps c.saving_reads-testing_from.ensures.count, c.if-index-testing_from.false))
