@@ -70,6 +70,7 @@ impl Plan {
     pub fn read(settings: Settings, text: &[u8]) -> Result<Plan, Refusal>
         ensures ok { IfOk result (λ plan. plan ≡ plan_of settings text.now) }
         ensures sound { IfOk result IsPlan }
+        ensures short { IfOk result (λ _. length text.now ≤ 448) }
         ensures unrefused { IfOk result (λ _. refusal_of settings text.now ≡ None) }
         ensures err { IfErr result (λ refusal. refusal_of settings text.now ≡ Some refusal) }
     {
