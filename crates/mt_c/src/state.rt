@@ -165,6 +165,7 @@ impl MtTest {
 }
 
 /// The plan that C's numbers stand for, if they stand for one.
+#[inline(always)]
 fn read_plan(state: &MtTest) -> Option<Plan>
     ensures plan { IfSome result (λ plan. plan ≡ plan_of (settings_of state.now.settings) (text_of state.now)) }
     ensures sound { IfSome result IsPlan }
@@ -184,6 +185,7 @@ fn read_plan(state: &MtTest) -> Option<Plan>
 }
 
 /// The test that C's numbers stand for, if they stand for one.
+#[inline(always)]
 pub(crate) fn read_test(state: &MtTest) -> Option<Test>
     ensures plan { IfSome result (λ test. test.plan ≡ plan_of (settings_of state.now.settings) (text_of state.now)) }
     ensures at { IfSome result (λ test. test.at ≡ moment_of state.now) }

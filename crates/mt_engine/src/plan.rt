@@ -21,6 +21,7 @@ pub struct Plan {
 }
 
 /// The algorithm of a text, or why there is none.
+#[inline(always)]
 fn read_algorithm(text: &[u8]) -> Result<Algorithm, Refusal>
     requires { length text.now ≤ 448 }
     ensures ok { IfOk result (λ algorithm. algorithm ≡ algorithm_of text.now) }
@@ -66,6 +67,7 @@ impl Plan {
     ///
     /// The names are `checkerboard`, `walk-path`, `galpat`, `transparent-galpat`, `march-c-minus` and `mats-plus`. A march is
     /// written as in `{*(w0); u(r0,w1); d(r1,w0)}`. Of several rules that are broken the first of [`Refusal`] is told.
+    #[inline(always)]
     #[tactic(auto, unfolding(crate::specs::Setup::refusal_of))]
     pub fn read(settings: Settings, text: &[u8]) -> Result<Plan, Refusal>
         ensures ok { IfOk result (λ plan. plan ≡ plan_of settings text.now) }
@@ -89,6 +91,7 @@ impl Plan {
         }
     }
 
+    #[inline(always)]
     fn of(settings: Settings, alg: Algorithm) -> Plan
         requires { settings.count ≤ 64 }
         ensures { result ≡ record {

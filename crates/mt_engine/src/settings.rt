@@ -46,6 +46,7 @@ pub enum Refusal {
 
 /// The algorithm of a name.
 #[tactic(auto, unfolding(crate::specs::Setup::named))]
+#[inline(always)]
 pub(crate) fn algorithm_named(text: &[u8]) -> Option<Algorithm>
     ensures named { result ≡ named text.now }
     ensures accepted { IfSome result IsAccepted }
