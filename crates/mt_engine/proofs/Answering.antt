@@ -13,11 +13,12 @@ use Rattle.mt_plan.specs.Plan.{steps_of}
 use Rattle.mt_seq.specs.Attempts.{keeps_words}
 use Rattle.mt_seq.specs.Sequence.{sequence_hold}
 use Rattle.mt_seq.specs.Stepping.{Stepping, item_at, stepped, saved_after, agreed, IsNoLook}
+use Rattle.mt_seq.specs.Told.{known_after}
 use Rattle.mt_engine.specs.declared.plan.Plan.{Plan}
 use Rattle.mt_engine.specs.declared.test.Due.TheVariants.{Ended}
 use Rattle.mt_engine.specs.declared.test.Moment.{Moment}
 use Rattle.mt_engine.specs.Setup.{is_word}
-use Rattle.mt_engine.specs.Testing.{Testing, IsTest, answered, asked, due, ending_from, ending_of, is_no_answer, is_over, is_where_broken, known_after, saved_count, saved_places, testing}
+use Rattle.mt_engine.specs.Testing.{Testing, IsTest, answered, asked, due, ending_from, ending_of, is_no_answer, is_over, is_where_broken, saved_count, saved_places, testing}
 use Rattle.mt_engine.proofs.Breaking.{saved_long}
 
 -- ---- what is due

@@ -1,2 +1,3 @@
 pub mod Breaking
 pub mod Answering
+pub mod Telling

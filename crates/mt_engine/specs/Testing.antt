@@ -8,7 +8,8 @@ use Rattle.mt_plan.specs.declared.algorithm.Policy.TheVariants.{NonDestructive, 
 use Rattle.mt_plan.specs.Plan.{steps_of}
 use Rattle.mt_seq.specs.Attempts.{keeps_words}
 use Rattle.mt_seq.specs.Sequence.{sequence_hold, IsSoundJob, IsSoundSlice}
-use Rattle.mt_seq.specs.Stepping.{Stepping, begun, item_at, stepped}
+use Rattle.mt_seq.specs.Stepping.{Stepping, begun, item_at}
+use Rattle.mt_seq.specs.Told.{known_after}
 use Rattle.mt_engine.specs.declared.plan.Plan.{Plan}
 use Rattle.mt_engine.specs.declared.test.Moment.{Moment}
 use Rattle.mt_engine.specs.declared.test.Due.{Due}
@@ -84,11 +85,6 @@ asked (Some (Store addr word)) = Write addr word
 -- the access that is due, or the end
 unfoldable pub due : Testing → Due
 due t = if is_over t then Ended (ending_of t) else asked (item_at t.width t.known)
-
--- what is known of a sequence once an access of it was answered
-abbrev pub known_after : Stepping → Option Item → ℕ → Stepping
-known_after s None answer = s
-known_after s (Some item) answer = stepped s item answer
 
 -- the test after the access that is due was answered; a test that is over stays as it is
 unfoldable pub answered : Testing → ℕ → Testing

@@ -4,10 +4,12 @@
 //! its saving reads answered. Whoever makes the accesses keeps these three between two calls.
 #![tactic(auto)]
 
+mod laws;
 mod plan;
 mod settings;
 mod test;
 
+pub use laws::tests_ask_for_the_sequence;
 pub use plan::Plan;
 pub use settings::{Refusal, Settings};
 pub use test::{Due, Ending, Moment, NoWord};

@@ -6,16 +6,18 @@ use Rattle.std.proofs.lemmas.Bool.{cases_lt}
 use Rattle.std.proofs.lemmas.List.{take_all, length-take}
 use Rattle.std.proofs.lemmas.Option.{slice_get-get_or}
 use Rattle.mt_word.specs.declared.Width.{Width}
-use Rattle.mt_fault.specs.Items.{Item, Look}
+use Rattle.mt_fault.specs.Items.{Item, Look, Store}
+use Rattle.mt_plan.specs.declared.algorithm.Policy.{Policy}
 use Rattle.mt_plan.specs.declared.algorithm.Step.{Step}
 use Rattle.mt_plan.specs.Plan.{steps_of}
 use Rattle.mt_seq.specs.declared.sequence.Slice.{Slice}
 use Rattle.mt_seq.specs.declared.sequence.Job.{Job}
-use Rattle.mt_seq.specs.Sequence.{saving, testing, ending, listed, sequence_hold}
+use Rattle.mt_seq.specs.Sequence.{saving, testing, ending, last_of, listed, sequence_hold}
 use Rattle.mt_seq.specs.Stepping.{Stepping, agreed, begun, item_at, stepped, saved_after}
-use Rattle.mt_seq.specs.Told.{all_agreed, known_after, told, sequence_told, AnswersMakeTheSequence, IsTold, ToldSequencesAreHolds}
+use Rattle.mt_seq.specs.Told.{all_agreed, known_after, told, sequence_told, AnswersMakeTheSequence, IsTold, ToldSequencesAreHolds, SavedWordsAreWrittenBack}
 use Rattle.mt_seq.proofs.Attempts.{hold_is_long}
-use Rattle.mt_seq.proofs.Lengths.{hold_is, length-testing, length-ending}
+use Rattle.mt_seq.proofs.Lengths.{hold_is, length-saving, length-testing, length-ending}
+use Rattle.mt_seq.proofs.Moves.{ending_item}
 use Rattle.mt_seq.proofs.Underway.{take_more, next_listed, early_look, later_no_look, no_look_saves}
 
 -- ---- lists
@@ -106,6 +108,8 @@ one_more width s answers k a item is at here =
     let saved : saved_after s.saved item a ≡ take (suc k) (take from answers) = saved_more width s answers k a item is at here in
     let front : length (take k answers) ≡ k = omega (arith, length-take k answers, Rattle.std.proofs.lemmas.Option.slice_get_within answers k a here) in
     record {
+      same_job = refl;
+      same_slice = refl;
       made = made;
       saved = saved;
       next = next_listed width (stepped s item a) (take from answers) (short_take from answers) (saved ∙ ap (λ (i : ℕ). take i (take from answers)) (sym made)) ∙ ap (slice_get list) made;
@@ -133,6 +137,8 @@ pub answers_make : AnswersMakeTheSequence
 answers_make width job slice answers zero few h =
     let from : ℕ = length (saving job.policy slice) in
     record {
+      same_job = refl;
+      same_slice = refl;
       made = refl;
       saved = refl;
       next = next_listed width (begun job slice) (take from answers) (short_take from answers) refl;
@@ -158,3 +164,11 @@ answers_make width job slice answers (suc k) few h =
     ∙ told_more width (begun job slice) (take k answers) (get_or answers k 0)
     ∙ ap (λ (o : Option Item). known_after s o (get_or answers k 0)) (before.next ∙ there.1) in
     subst (IsTold width job slice answers (suc k)) (sym same) home
+
+-- ---- the writes of the saved words
+
+pub written_back : SavedWordsAreWrittenBack
+written_back width s k keeps h made =
+    let from : length (saving s.job.policy s.slice) ≡ s.slice.n = ap (λ (p : Policy). length (saving p s.slice)) keeps ∙ length-saving s.slice in
+    ending_item width s k (omega (arith, made, from)) h
+    ∙ ap (λ (p : Policy). Some (Store (s.slice.first + k) (last_of p s.job.fill s.saved k))) keeps

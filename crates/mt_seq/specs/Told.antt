@@ -1,7 +1,8 @@
 -- A sequence whose accesses are answered by anything: by a memory that is not modelled.
-use Rattle.std.specs.Prelude.{ℕ, ◌≤◌, ◌≡◌, Bool, true, not, ◌&&◌, List, [], ◌∷◌, take, length, Option, Some, None, slice_get}
+use Rattle.std.specs.Prelude.{ℕ, ◌+◌, ◌<◌, ◌≤◌, ◌≡◌, Bool, true, not, ◌&&◌, List, [], ◌∷◌, take, length, Option, Some, None, slice_get, slice_index}
 use Rattle.mt_word.specs.declared.Width.{Width}
-use Rattle.mt_fault.specs.Items.{Item}
+use Rattle.mt_fault.specs.Items.{Item, Store}
+use Rattle.mt_plan.specs.declared.algorithm.Policy.TheVariants.{NonDestructive}
 use Rattle.mt_plan.specs.Plan.{steps_of}
 use Rattle.mt_seq.specs.declared.sequence.Slice.{Slice}
 use Rattle.mt_seq.specs.declared.sequence.Job.{Job}
@@ -31,6 +32,8 @@ all_agreed (item ∷ items) (answer ∷ answers) = agreed item answer && all_agr
 -- A sequence after k of its answers: it asks for the access with that index of its list, and it differs where a checked read
 -- so far answered another word.
 pub record IsTold (width : Width) (job : Job) (slice : Slice) (answers : List ℕ) (k : ℕ) (s : Stepping) : Type 0 where
+  pub same_job : s.job ≡ job
+  pub same_slice : s.slice ≡ slice
   pub made : s.made ≡ k
   pub saved : s.saved ≡ take k (take (length (saving job.policy slice)) answers)
   pub next : item_at width s ≡ slice_get (sequence_told width job slice answers) k
@@ -41,6 +44,12 @@ abbrev pub AnswersMakeTheSequence : Type 0
 AnswersMakeTheSequence =
     (width : Width) (job : Job) (slice : Slice) (answers : List ℕ) (k : ℕ) → length answers ≤ sequence_hold job slice.n → k ≤ length answers
     → IsTold width job slice answers k (told width (begun job slice) (take k answers))
+
+-- the last accesses of a sequence that keeps the words write the saved ones, in rising order
+abbrev pub SavedWordsAreWrittenBack : Type 0
+SavedWordsAreWrittenBack =
+    (width : Width) (s : Stepping) (k : ℕ) → s.job.policy ≡ NonDestructive → k < s.slice.n → s.made ≡ s.slice.n + length (steps_of s.job.alg s.slice.n) + k
+    → item_at width s ≡ Some (Store (s.slice.first + k) (slice_index s.saved k))
 
 -- and they are as many as the hold says
 abbrev pub ToldSequencesAreHolds : Type 0
