@@ -15,10 +15,9 @@ mod codes;
 mod state;
 
 pub use codes::{MtAccess, MtRefusal};
-pub use state::{MtSettings, MtTest};
-
 use codes::{Reply, accepted, refused, tell};
 use mt_engine::{NoWord, Plan};
+pub use state::{MtSettings, MtTest};
 use state::{Test, bit, read_test};
 
 /// Sets a test up, from settings and the text of an algorithm. The state is written only where nothing is refused.
@@ -113,9 +112,9 @@ pub extern "C" fn mt_break_off(test: &mut MtTest, access: &mut MtAccess) -> u32
     if !plan.may_break_off(at) {
         return Reply::TooLate.number();
     }
-    let next = plan.break_off(at);
-    test.put(next);
-    tell(plan.due(next, &test.saved), access)
+    let back = plan.break_off(at);
+    test.put(back);
+    tell(plan.due(back, &test.saved), access)
 }
 
 /// How many accesses the whole test has, or 0 for a spoilt state.
@@ -127,5 +126,35 @@ pub extern "C" fn mt_accesses(test: &MtTest) -> u32
     match read_test(test) {
         Some(Test { plan, .. }) => plan.accesses(),
         None => 0,
+    }
+}
+
+#[cfg(test)]
+mod tests {
+    use super::*;
+
+    #[test]
+    fn a_test_is_set_up_and_broken_off(rt: HostRuntime) {
+        let settings = MtSettings {
+            width: 8,
+            policy: 0,
+            first: 4,
+            count: 2,
+            background: 0,
+            fill: 0,
+        };
+        let mut test = MtTest::begun(settings, b"");
+        let mut access = MtAccess {
+            word: 0,
+            address: 0,
+        };
+        assert_eq!(rt; mt_due(&test, &mut access), 8);
+        assert_eq!(rt; mt_set_up(&mut test, &settings, b"checkerboard").rule, 0);
+        assert_eq!(rt; mt_accesses(&test), 12);
+        assert_eq!(rt; mt_due(&test, &mut access), 1);
+        assert_eq!(rt; mt_next(&mut test, 7, &mut access), 1);
+        assert_eq!(rt; access.address, 5);
+        assert_eq!(rt; mt_may_break_off(&test), 1);
+        assert_eq!(rt; mt_break_off(&mut test, &mut access), 5);
     }
 }

@@ -104,8 +104,13 @@ pub moment_next : (plan : Plan) (at : Moment) (places : List ℕ) (word addr : �
 moment_next plan at places word addr item good room kind agrees =
     ap (λ (l : List ℕ). let t : Testing = testing plan (next_moment at good) places in record t { known = record t.known { saved = l } })
     (saved_next plan.job.policy plan.slice.n at.made addr item places word room kind)
-    ∙ ap (λ (g : Bool). let t : Testing = testing plan at places in record t { known = record t.known {
-      made = at.made + 1; saved = saved_after t.known.saved item word; differs = at.differs || not g } }) agrees
+    ∙ ap (λ (g : Bool). let t : Testing = testing plan at places in record t {
+      known = record t.known {
+        made = at.made + 1;
+        saved = saved_after t.known.saved item word;
+        differs = at.differs || not g;
+      };
+    }) agrees
 
 or_parts : (a b : Bool) → (a || b) ≡ false → (a ≡ false) × (b ≡ false)
 or_parts true b h = cc
@@ -131,12 +136,12 @@ test_next plan at places word addr item good room kind answers is left =
       slice = is.slice;
       made = omega (arith, is.made, more);
       fit = subst (All (Fits plan.width)) (sym (saved_next plan.job.policy n at.made addr item places word room kind))
-      (saved_fit plan.width item (take (saved_count plan.job.policy n at.made) places) word is.fit answers);
+          (saved_fit plan.width item (take (saved_count plan.job.policy n at.made) places) word is.fit answers);
       saved = saved_long plan.job.policy n (at.made + 1) (saved_places plan.job.policy n at.made places word) (omega (arith, places_long plan.job.policy n at.made places word));
       broken = λ b.
-      let early : nat_le at.made n ≡ false = ap (λ (x : Bool). x && nat_le at.made n) (sym b) ∙ parts.0 in
-      let late = later plan.job.policy (nat_le at.made n) (nat_le from at.made) (is.broken b) early in
-      keeps_late plan.job.policy (nat_le (at.made + 1) n) (nat_le from (at.made + 1)) late.0 (le-leb from (at.made + 1) (omega (arith, leb-true from at.made late.1)));
+          let early : nat_le at.made n ≡ false = ap (λ (x : Bool). x && nat_le at.made n) (sym b) ∙ parts.0 in
+          let late = later plan.job.policy (nat_le at.made n) (nat_le from at.made) (is.broken b) early in
+          keeps_late plan.job.policy (nat_le (at.made + 1) n) (nat_le from (at.made + 1)) late.0 (le-leb from (at.made + 1) (omega (arith, leb-true from at.made late.1)));
     }
   where
     keeps_late : (policy : Policy) (early late : Bool) → keeps_words policy ≡ true → late ≡ true → (keeps_words policy && (early || late)) ≡ true

@@ -36,7 +36,7 @@ moved plan at to places later e =
     let place : (if nat_lt plan.slice.n at.made then plan.slice.n + length (steps_of plan.job.alg plan.slice.n) else at.made) ≡ to =
     ap (λ (b : Bool). if b then plan.slice.n + length (steps_of plan.job.alg plan.slice.n) else at.made) (lt-ltb plan.slice.n at.made later) ∙ sym e in
     ap (λ (k : ℕ). let t : Testing = testing plan (record { made = to; differs = at.differs; broken = true }) places in
-      record t { known = record t.known { saved = take k places } }) (count_stays plan.job.policy plan.slice.n to at.made (omega arith) (omega arith))
+    record t { known = record t.known { saved = take k places } }) (count_stays plan.job.policy plan.slice.n to at.made (omega arith) (omega arith))
     ∙ ap (λ (m : ℕ). let t : Testing = testing plan at places in record t { broken = true; known = record t.known { made = m } }) (sym place)
 
 pub stayed : (plan : Plan) (at : Moment) (places : List ℕ) → at.made ≤ plan.slice.n

@@ -82,8 +82,8 @@ due_known plan answers k s whole is =
     (ap (λ (m : ℕ). m == sequence_hold s.job s.slice.n) is.made ∙ ap (λ (m : ℕ). k == m) (same_hold plan answers k s is))
     ∙ choose (k == hold) (Ended (if s.differs then Fail else Pass)) (Ended (if all_agreed items answers then Pass else Fail)) (asked (item_at plan.width s)) (asked (slice_get items k))
     (λ e.
-      let all : take k answers ≡ answers = take_all k answers (omega (arith, eqb-true k hold e, whole)) in
-      ap Ended (ap (λ (d : Bool). if d then Fail else Pass) (is.differs ∙ ap (λ (l : List ℕ). not (all_agreed items l)) all) ∙ turned (all_agreed items answers)))
+    let all : take k answers ≡ answers = take_all k answers (omega (arith, eqb-true k hold e, whole)) in
+    ap Ended (ap (λ (d : Bool). if d then Fail else Pass) (is.differs ∙ ap (λ (l : List ℕ). not (all_agreed items l)) all) ∙ turned (all_agreed items answers)))
     (ap asked is.next)
 
 pub asks : AnswersMakeTheSequence → TestsAskForTheSequence
@@ -158,7 +158,7 @@ puts_back counted law t answers k is may h few =
     elim (cases_lt n t.known.made) [
       | inl later ↦ (
           let begun_writes : (if nat_lt n t.known.made && nat_lt k n then Write (t.known.slice.first + k) (slice_index t.known.saved k) else Ended BrokenOff)
-            ≡ (if nat_lt k n then Write (t.known.slice.first + k) (slice_index t.known.saved k) else Ended BrokenOff) =
+          ≡ (if nat_lt k n then Write (t.known.slice.first + k) (slice_index t.known.saved k) else Ended BrokenOff) =
           ap (λ (b : Bool). if b && nat_lt k n then Write (t.known.slice.first + k) (slice_index t.known.saved k) else Ended BrokenOff) (lt-ltb n t.known.made later) in
           ap due (told_back counted law t answers keeps later early k h few)
           ∙ elim (cases_lt k n) [

@@ -95,9 +95,10 @@ impl Plan {
     fn of(settings: Settings, alg: Algorithm) -> Plan
         requires { settings.count ≤ 64 }
         ensures { result ≡ record {
-            width = settings.width;
-            job = record { alg = alg; policy = settings.policy; background = settings.background; fill = settings.fill };
-            slice = record { first = settings.first; n = settings.count } } }
+          width = settings.width;
+          job = record { alg = alg; policy = settings.policy; background = settings.background; fill = settings.fill };
+          slice = record { first = settings.first; n = settings.count };
+        } }
     {
         Plan {
             width: settings.width,

@@ -1,6 +1,6 @@
 //! A test under way.
 
-ghost use Rattle.std.specs.Prelude.{◌≡◌, ◌≤◌, ◌<◌, ◌+◌, ℕ, Bool, List, [], All, length, take, IfSome, IfNone, Some, None, true, false, not,  IfOk, IfErr};
+ghost use Rattle.std.specs.Prelude.{◌≡◌, ◌≤◌, ◌<◌, ◌+◌, ℕ, Bool, List, [], All, length, take, IfSome, IfNone, Some, None, true, false, not, IfOk, IfErr};
 ghost use Rattle.mt_word.specs.Word.{Fits};
 ghost use Rattle.mt_fault.specs.Items.{Item};
 ghost use Rattle.mt_plan.specs.Plan.{steps_of};
@@ -261,5 +261,47 @@ impl Plan {
             differs: at.differs,
             broken: true,
         }
+    }
+}
+
+#[cfg(test)]
+mod tests {
+    use super::*;
+    use crate::settings::{Refusal, Settings};
+    use std::test::Fail;
+
+    const SETTINGS: Settings = Settings {
+        width: Width::W8,
+        policy: Policy::NonDestructive,
+        background: 0,
+        fill: 0,
+        first: 8,
+        count: 2,
+    };
+
+    #[test]
+    fn a_test_begins_and_is_broken_off(rt: HostRuntime) -> Result<(), Fail> {
+        let plan = Plan::read(SETTINGS, b"checkerboard").ok().ok_or("plan")?;
+        assert_eq!(rt; plan.accesses(), 12);
+        let mut places = [0; 64];
+        let first = Moment::first();
+        assert!(rt; plan.has_moment(first, &places));
+        assert_eq!(rt; plan.due(first, &places), Due::Read(8));
+        assert_eq!(rt; plan.answer(first, &mut places, 256), Err(NoWord));
+        let second = plan.answer(first, &mut places, 7).ok().ok_or("word")?;
+        assert_eq!(rt; plan.due(second, &places), Due::Read(9));
+        assert!(rt; plan.may_break_off(second));
+        let back = plan.break_off(second);
+        assert_eq!(rt; plan.due(back, &places), Due::Ended(Ending::BrokenOff));
+        Ok(())
+    }
+
+    #[test]
+    fn a_slice_of_65_words_is_refused(rt: HostRuntime) {
+        let settings = Settings {
+            count: 65,
+            ..SETTINGS
+        };
+        assert!(rt; matches!(Plan::read(settings, b"galpat"), Err(Refusal::Count)));
     }
 }

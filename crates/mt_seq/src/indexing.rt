@@ -96,6 +96,7 @@ mod tests {
     use mt_plan::Algorithm;
 
     #[test]
+    #[tactic(auto, unfolding(crate::specs::Sequence::sequence_hold, mt_plan::specs::Plan::step_count))]
     fn checkerboard_keeps_two_words(rt: HostRuntime) {
         let job = Job {
             alg: Algorithm::Checkerboard,

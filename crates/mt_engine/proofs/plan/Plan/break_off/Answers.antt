@@ -21,7 +21,7 @@ returns-then-from-at-clause-test c = λ places is.
       fit = subst (λ (k : ℕ). All (Fits plan.width) (take k places)) same is.fit;
       saved = subst (λ (k : ℕ). length (take k places) ≡ k) same is.saved;
       broken = λ b. placed plan.job.policy c.ending_from.result n (n + length (steps_of plan.job.alg n)) (nat_le c.ending_from.result n) keeps
-        (le-leb _ _ (omega (arith, c.ending_from.ensures.place)));
+          (le-leb _ _ (omega (arith, c.ending_from.ensures.place)));
     }
 
 pub returns-else-from-at-clause-test : goal.returns-else-from-at-clause-test
