@@ -18,7 +18,7 @@ pub use codes::{MtAccess, MtRefusal};
 use codes::{Reply, accepted, refused, tell};
 use mt_engine::{NoWord, Plan};
 pub use state::{MtSettings, MtTest};
-use state::{Test, bit, read_test};
+use state::{bit, read_test};
 
 /// Sets a test up, from settings and the text of an algorithm. The state is written only where nothing is refused.
 #[unsafe(no_mangle)]
@@ -49,9 +49,10 @@ pub extern "C" fn mt_due(test: &MtTest, access: &mut MtAccess) -> u32
     ensures reply { IsState test.now → result ≡ reply_number (reply_of (due (testing_of test.now))) }
     ensures access { IsState test.now → access.new ≡ access_after (due (testing_of test.now)) access.old }
 {
-    let Some(Test { plan, at }) = read_test(test) else {
+    let Some(plan) = read_test(test) else {
         return Reply::Spoilt.number();
     };
+    let at = test.moment();
     tell(plan.due(at, &test.saved), access)
 }
 
@@ -70,9 +71,10 @@ pub extern "C" fn mt_next(test: &mut MtTest, answer: u64, access: &mut MtAccess)
     ensures access { IsState test.old → is_no_answer (due (testing_of test.old)) (testing_of test.old).width answer ≡ false
         → access.new ≡ access_after (due (testing_of test.new)) access.old }
 {
-    let Some(Test { plan, at }) = read_test(test) else {
+    let Some(plan) = read_test(test) else {
         return Reply::Spoilt.number();
     };
+    let at = test.moment();
     match plan.answer(at, &mut test.saved, answer) {
         Ok(next) => {
             test.put(next);
@@ -89,7 +91,7 @@ pub extern "C" fn mt_may_break_off(test: &MtTest) -> u32
     ensures may { IsState test.now → result ≡ bit (may_break_off (testing_of test.now)) }
 {
     match read_test(test) {
-        Some(Test { plan, at }) => bit(plan.may_break_off(at)),
+        Some(plan) => bit(plan.may_break_off(test.moment())),
         None => 0,
     }
 }
@@ -106,9 +108,10 @@ pub extern "C" fn mt_break_off(test: &mut MtTest, access: &mut MtAccess) -> u32
     ensures reply { IsState test.old → may_break_off (testing_of test.old) ≡ true → result ≡ reply_number (reply_of (due (testing_of test.new))) }
     ensures access { IsState test.old → may_break_off (testing_of test.old) ≡ true → access.new ≡ access_after (due (testing_of test.new)) access.old }
 {
-    let Some(Test { plan, at }) = read_test(test) else {
+    let Some(plan) = read_test(test) else {
         return Reply::Spoilt.number();
     };
+    let at = test.moment();
     if !plan.may_break_off(at) {
         return Reply::TooLate.number();
     }
@@ -124,7 +127,7 @@ pub extern "C" fn mt_accesses(test: &MtTest) -> u32
     ensures count { IsState test.now → result ≡ sequence_hold (testing_of test.now).known.job (testing_of test.now).known.slice.n }
 {
     match read_test(test) {
-        Some(Test { plan, .. }) => plan.accesses(),
+        Some(plan) => plan.accesses(),
         None => 0,
     }
 }

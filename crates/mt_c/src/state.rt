@@ -37,13 +37,6 @@ pub struct MtTest {
     pub saved: [u64; 64],
 }
 
-/// A test that C's numbers stand for.
-#[derive(Drop)]
-pub(crate) struct Test {
-    pub plan: Plan,
-    pub at: Moment,
-}
-
 /// 1 or 0.
 pub(crate) fn bit(value: bool) -> u32
     ensures { result ≡ bit value }
@@ -153,7 +146,8 @@ impl MtTest {
     }
 
     /// The moment that the numbers stand for.
-    fn moment(&self) -> Moment
+    #[inline(always)]
+    pub(crate) fn moment(&self) -> Moment
         ensures { result ≡ moment_of self.now }
     {
         Moment {
@@ -184,13 +178,12 @@ fn read_plan(state: &MtTest) -> Option<Plan>
     }
 }
 
-/// The test that C's numbers stand for, if they stand for one.
+/// The plan of the test that C's numbers stand for, if they stand for one.
 #[inline(always)]
-pub(crate) fn read_test(state: &MtTest) -> Option<Test>
-    ensures plan { IfSome result (λ test. test.plan ≡ plan_of (settings_of state.now.settings) (text_of state.now)) }
-    ensures at { IfSome result (λ test. test.at ≡ moment_of state.now) }
-    ensures sound { IfSome result (λ test. IsPlan test.plan) }
-    ensures test { IfSome result (λ test. IsTest (testing test.plan test.at state.now.saved)) }
+pub(crate) fn read_test(state: &MtTest) -> Option<Plan>
+    ensures plan { IfSome result (λ plan. plan ≡ plan_of (settings_of state.now.settings) (text_of state.now)) }
+    ensures sound { IfSome result IsPlan }
+    ensures test { IfSome result (λ plan. IsTest (testing plan (moment_of state.now) state.now.saved)) }
     ensures some { IfSome result (λ _. IsState state.now) }
     ensures none { IfNone result (IsState state.now → ⊥) }
 {
@@ -198,9 +191,8 @@ pub(crate) fn read_test(state: &MtTest) -> Option<Test>
     if state.differs > 1 || state.broken > 1 {
         return None;
     }
-    let at = state.moment();
-    if plan.has_moment(at, &state.saved) {
-        Some(Test { plan, at })
+    if plan.has_moment(state.moment(), &state.saved) {
+        Some(plan)
     } else {
         None
     }
