@@ -1,5 +1,5 @@
 -- What C is told, in numbers.
-use Rattle.std.specs.Prelude.{ℕ, ◌+◌, Bool, not, if◌then◌else◌, List, Option, Some, None}
+use Rattle.std.specs.Prelude.{ℕ, ◌+◌, not, if◌then◌else◌, List, Option, Some, None}
 use Rattle.mt_march.specs.Reading.{march_number}
 use Rattle.mt_engine.specs.declared.settings.Refusal.{Refusal}
 use Rattle.mt_engine.specs.declared.settings.Refusal.TheVariants.{Count, Addresses, Background, Fill, Length, TransparentFill, March}

@@ -1,5 +1,5 @@
 -- What an answer adds to a test.
-use Rattle.std.proofs.Common.{ℕ, ◌≡◌, ◌≢◌, ◌+◌, ◌^◌, ◌<◌, ◌≤◌, Bool, true, false, List, [], ◌∷◌, ◌++◌, take, length, refl, arith, ap, sym, ◌∙◌, subst, inl, inr, Some, add-one}
+use Rattle.std.proofs.Common.{ℕ, ◌≡◌, ◌≢◌, ◌+◌, ◌^◌, ◌<◌, ◌≤◌, Bool, true, false, List, [], ◌∷◌, ◌++◌, take, length, refl, arith, ap, sym, ◌∙◌, subst, inl, inr, Some}
 use Rattle.std.specs.Prelude.{not, ◌&&◌, ◌||◌, ◌==◌, nat_le, nat_lt, min, if◌then◌else◌, All, slice_set}
 use Rattle.std.proofs.lemmas.Bool.{cases_lt, eqb-false, lt-ltb, le-ltb, le-leb, ltb-true, leb-true}
 use Rattle.std.proofs.lemmas.List.{take_more_set}
@@ -12,13 +12,13 @@ use Rattle.mt_plan.specs.declared.algorithm.Policy.TheVariants.{NonDestructive, 
 use Rattle.mt_plan.specs.Plan.{steps_of}
 use Rattle.mt_seq.specs.Attempts.{keeps_words}
 use Rattle.mt_seq.specs.Sequence.{sequence_hold}
-use Rattle.mt_seq.specs.Stepping.{Stepping, item_at, stepped, saved_after, agreed, IsNoLook}
+use Rattle.mt_seq.specs.Stepping.{item_at, stepped, saved_after, agreed, IsNoLook}
 use Rattle.mt_seq.specs.Told.{known_after}
 use Rattle.mt_engine.specs.declared.plan.Plan.{Plan}
 use Rattle.mt_engine.specs.declared.test.Due.TheVariants.{Ended}
 use Rattle.mt_engine.specs.declared.test.Moment.{Moment}
 use Rattle.mt_engine.specs.Setup.{is_word}
-use Rattle.mt_engine.specs.Testing.{Testing, IsTest, answered, asked, due, ending_from, ending_of, is_no_answer, is_over, is_where_broken, saved_count, saved_places, testing}
+use Rattle.mt_engine.specs.Testing.{Testing, IsTest, answered, asked, due, ending_of, is_no_answer, is_over, saved_count, saved_places, testing}
 use Rattle.mt_engine.proofs.Breaking.{saved_long}
 
 -- ---- what is due

@@ -1,15 +1,14 @@
 -- A test that is broken off.
-use Rattle.std.proofs.Common.{ℕ, ◌≡◌, ◌+◌, ◌<◌, ◌≤◌, Bool, true, false, List, take, length, length-take-le, refl, arith, ap, sym, ◌∙◌, subst}
+use Rattle.std.proofs.Common.{ℕ, ◌≡◌, ◌+◌, ◌<◌, ◌≤◌, Bool, true, false, List, take, length, length-take-le, refl, arith, ap, sym, ◌∙◌}
 use Rattle.std.specs.Prelude.{not, ◌&&◌, ◌||◌, nat_le, nat_lt, min, if◌then◌else◌}
 use Rattle.std.proofs.lemmas.Bool.{and_parts, le-leb, lt-ltb, le-ltb, ltb-true}
 use Rattle.mt_plan.specs.declared.algorithm.Policy.{Policy}
 use Rattle.mt_plan.specs.declared.algorithm.Policy.TheVariants.{NonDestructive, Destructive}
 use Rattle.mt_plan.specs.Plan.{steps_of}
 use Rattle.mt_seq.specs.Attempts.{keeps_words}
-use Rattle.mt_seq.specs.Sequence.{sequence_hold}
 use Rattle.mt_engine.specs.declared.plan.Plan.{Plan}
 use Rattle.mt_engine.specs.declared.test.Moment.{Moment}
-use Rattle.mt_engine.specs.Testing.{Testing, IsTest, testing, broken_off, ending_from, is_where_broken, may_break_off, saved_count}
+use Rattle.mt_engine.specs.Testing.{Testing, testing, broken_off, ending_from, may_break_off, saved_count}
 
 pub keeps : (policy : Policy) → keeps_words policy ≡ true → policy ≡ NonDestructive
 keeps NonDestructive h = refl

@@ -1,27 +1,25 @@
 -- A test that is told answers, one after another.
-use Rattle.std.proofs.Common.{ℕ, zero, suc, add-one, ◌≡◌, ◌+◌, ◌*◌, ◌<◌, ◌≤◌, Bool, true, false, List, [], ◌∷◌, ◌++◌, take, length, refl, arith, ap, sym, ◌∙◌, Some, inl, inr, get_or, eq-eqb}
-use Rattle.std.specs.Prelude.{not, ◌&&◌, ◌||◌, ◌==◌, nat_le, nat_lt, if◌then◌else◌, slice_get, slice_index, Option}
+use Rattle.std.proofs.Common.{ℕ, zero, suc, ◌≡◌, ◌+◌, ◌*◌, ◌<◌, ◌≤◌, Bool, true, false, List, [], ◌∷◌, ◌++◌, take, length, refl, arith, ap, sym, ◌∙◌, inl, inr, get_or, eq-eqb}
+use Rattle.std.specs.Prelude.{not, ◌&&◌, ◌||◌, ◌==◌, nat_le, nat_lt, if◌then◌else◌, slice_get, slice_index}
 use Rattle.std.proofs.lemmas.Bool.{cases_lt, eqb-true, ne_eqb, lt-ltb, le-ltb, le-leb, lt-leb}
 use Rattle.std.proofs.lemmas.List.{take_all}
 use Rattle.std.proofs.Math.Seq.{take-suc}
 use Rattle.mt_fault.specs.Items.{Item, Store}
 use Rattle.mt_plan.specs.declared.algorithm.Policy.{Policy}
 use Rattle.mt_plan.specs.declared.algorithm.Policy.TheVariants.{NonDestructive}
-use Rattle.mt_plan.specs.Plan.{steps_of, frame_of}
+use Rattle.mt_plan.specs.Plan.{frame_of}
 use Rattle.mt_plan.specs.Steady.{PlansAreCounted}
 use Rattle.mt_word.specs.declared.Width.{Width}
 use Rattle.mt_seq.specs.declared.sequence.Job.{Job}
 use Rattle.mt_seq.specs.declared.sequence.Slice.{Slice}
 use Rattle.mt_seq.specs.Sequence.{sequence_hold}
-use Rattle.mt_seq.specs.Stepping.{Stepping, begun, item_at, stepped}
+use Rattle.mt_seq.specs.Stepping.{Stepping, begun, item_at}
 use Rattle.mt_seq.specs.Told.{all_agreed, known_after, sequence_told, told as known_told, AnswersMakeTheSequence, IsTold, SavedWordsAreWrittenBack}
 use Rattle.mt_engine.specs.declared.plan.Plan.{Plan}
-use Rattle.mt_engine.specs.declared.test.Due.{Due}
 use Rattle.mt_engine.specs.declared.test.Due.TheVariants.{Write, Ended}
-use Rattle.mt_engine.specs.declared.test.Ending.{Ending}
 use Rattle.mt_engine.specs.declared.test.Ending.TheVariants.{Pass, Fail, BrokenOff}
 use Rattle.mt_engine.specs.Laws.{told, due_after, due_back, BrokenTestsPutTheWordsBack, TestsAskForTheSequence}
-use Rattle.mt_engine.specs.Testing.{Testing, IsTest, answered, asked, broken_off, due, ending_from, ending_of, is_over, may_break_off, set_up}
+use Rattle.mt_engine.specs.Testing.{Testing, answered, asked, broken_off, due, ending_from, is_over, set_up}
 use Rattle.mt_engine.proofs.Answering.{over_due, over_answered, left_due, left_answered}
 use Rattle.mt_engine.proofs.Breaking.{may_keeps, may_early}
 

@@ -1,12 +1,11 @@
 -- What a test asks for, whatever it is answered.
-use Rattle.std.specs.Prelude.{ℕ, ◌+◌, ◌<◌, ◌≤◌, ◌≡◌, ◌==◌, Bool, true, ◌&&◌, nat_lt, if◌then◌else◌, List, [], ◌∷◌, take, length, slice_get, slice_index}
+use Rattle.std.specs.Prelude.{ℕ, ◌+◌, ◌≤◌, ◌≡◌, ◌==◌, true, ◌&&◌, nat_lt, if◌then◌else◌, List, [], ◌∷◌, take, length, slice_get, slice_index}
 use Rattle.mt_seq.specs.Sequence.{sequence_hold}
 use Rattle.mt_seq.specs.Told.{all_agreed, sequence_told}
 use Rattle.mt_engine.specs.declared.plan.Plan.{Plan}
 use Rattle.mt_engine.specs.declared.test.Due.{Due}
 use Rattle.mt_engine.specs.declared.test.Due.TheVariants.{Write, Ended}
 use Rattle.mt_engine.specs.declared.test.Ending.TheVariants.{Pass, Fail, BrokenOff}
-use Rattle.mt_engine.specs.Setup.{IsPlan}
 use Rattle.mt_engine.specs.Testing.{Testing, IsTest, answered, asked, broken_off, due, may_break_off, set_up}
 
 -- a test once these answers were told, one after another

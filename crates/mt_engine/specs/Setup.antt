@@ -1,8 +1,8 @@
 -- What a test is set up from: its settings, and the text of its algorithm, which is a name or a march.
-use Rattle.std.specs.Prelude.{ℕ, ◌+◌, ◌-◌, ◌^◌, ◌<◌, ◌≤◌, ◌≡◌, Bool, true, false, not, ◌&&◌, nat_le, nat_lt, if◌then◌else◌, List, length, codes, Option, Some, None, option_map}
+use Rattle.std.specs.Prelude.{ℕ, ◌+◌, ◌-◌, ◌^◌, Bool, true, false, not, ◌&&◌, nat_le, nat_lt, if◌then◌else◌, List, length, codes, Option, Some, None, option_map}
 use Rattle.std.specs.Str.{bytes_eq}
 use Rattle.mt_word.specs.declared.Width.{Width}
-use Rattle.mt_word.specs.Word.{width_bits, Fits}
+use Rattle.mt_word.specs.Word.{width_bits}
 use Rattle.mt_march.specs.declared.march.Element.{Element}
 use Rattle.mt_march.specs.declared.march.March.{March}
 use Rattle.mt_march.specs.Known.{march_c_minus, mats_plus}
@@ -10,7 +10,6 @@ use Rattle.mt_march.specs.Reading.{march_refusal}
 use Rattle.mt_march.specs.Value.{march_of}
 use Rattle.mt_plan.specs.declared.algorithm.Algorithm.{Algorithm}
 use Rattle.mt_plan.specs.declared.algorithm.Algorithm.TheVariants.{Checkerboard, March as Marches, WalkPath, Galpat, TransparentGalpat}
-use Rattle.mt_plan.specs.declared.algorithm.Policy.TheVariants.{NonDestructive, Destructive}
 use Rattle.mt_seq.specs.Attempts.{keeps_words}
 use Rattle.mt_seq.specs.Sequence.{IsSoundJob, IsSoundSlice}
 use Rattle.mt_engine.specs.declared.plan.Plan.{Plan}

@@ -1,10 +1,9 @@
-use Rattle.std.proofs.Common.{◌≡◌, ◌+◌, ◌≤◌, ℕ, true, false, Bool, length, refl, arith, ap, sym, ◌∙◌, subst, Some}
+use Rattle.std.proofs.Common.{◌≡◌, ◌+◌, true, false, Bool, refl, arith, ap, sym, ◌∙◌}
 use Rattle.std.specs.Prelude.{not}
-use Rattle.mt_word.specs.declared.Width.{Width}
 use Rattle.mt_seq.specs.Stepping.{item_of_access}
 use Rattle.mt_engine.specs.declared.test.Due.{Due}
-use Rattle.mt_engine.specs.Testing.{testing, Testing, IsTest, answered, asked, due, is_no_answer, is_over, saved_places}
-use Rattle.mt_engine.proofs.Answering.{over_due, left_due, over_answered, left_answered, moment_next, next_moment, test_next, IsKind}
+use Rattle.mt_engine.specs.Testing.{testing, Testing, is_no_answer, is_over}
+use Rattle.mt_engine.proofs.Answering.{over_due, left_due, over_answered, left_answered, moment_next, test_next, IsKind}
 use Rattle.mt_engine.proofs.plan.Plan.answer.Goals as goal
 
 not_false : (b : Bool) → true ≡ not b → b ≡ false

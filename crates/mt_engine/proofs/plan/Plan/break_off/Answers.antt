@@ -1,4 +1,4 @@
-use Rattle.std.proofs.Common.{ℕ, ◌≡◌, ◌≤◌, List, [], length, refl, arith, take, true, sym, ◌∙◌, subst}
+use Rattle.std.proofs.Common.{ℕ, ◌≡◌, [], length, arith, take, subst}
 use Rattle.std.specs.Prelude.{All, nat_le, ◌+◌}
 use Rattle.std.proofs.lemmas.Bool.{le-leb}
 use Rattle.mt_word.specs.Word.{Fits}

@@ -1,4 +1,4 @@
-use Rattle.std.proofs.Common.{◌≡◌, Bool, refl, ap, sym, ◌∙◌}
+use Rattle.std.proofs.Common.{Bool, ap, sym, ◌∙◌}
 use Rattle.std.specs.Prelude.{if◌then◌else◌}
 use Rattle.mt_engine.specs.declared.test.Due.TheVariants.{Ended}
 use Rattle.mt_seq.specs.Stepping.{item_at}

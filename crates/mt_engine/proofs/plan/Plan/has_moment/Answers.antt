@@ -1,6 +1,4 @@
-use Rattle.std.proofs.Common.{◌≡◌, ◌≤◌, arith, rules, take, length, sym, ◌∙◌, subst, true, false, Bool}
-use Rattle.std.specs.Prelude.{All}
-use Rattle.mt_word.specs.Word.{Fits}
+use Rattle.std.proofs.Common.{arith, take, sym, ◌∙◌}
 use Rattle.mt_engine.specs.Testing.{saved_count}
 use Rattle.mt_engine.proofs.Breaking.{saved_long, unbroken}
 use Rattle.mt_engine.proofs.plan.Plan.has_moment.Goals as goal
