@@ -32,7 +32,7 @@ for line in sys.stdin:
         room = re.search(r"\ssub\s+\$0x([0-9a-f]+),%rsp", line)
         if room:
             frames[name] += int(room[1], 16)
-        called = re.search(r"R_X86_64_(?:PLT32|PC32)\s+([^-+\s]+)", line) or re.search(r"\s(?:call|jmp)\s+[0-9a-f]+ <([^+>]+)>", line)
+        called = re.search(r"R_X86_64_(?:PLT32|PC32)\s+(?:\.text\.)?([^-+\s]+)", line) or re.search(r"\s(?:call|jmp)\s+[0-9a-f]+ <([^+>]+)>", line)
         if called:
             calls[name].add(called[1])
 

@@ -108,6 +108,10 @@ enum mt_reply {
     MT_SPOILT = 8      /* the state is none of a test; it was left as it was */
 };
 
+#ifdef __cplusplus
+extern "C" {
+#endif
+
 /*
  * Sets a test up. `text` is a name (checkerboard, walk-path, galpat, transparent-galpat, march-c-minus, mats-plus) or a march,
  * as "{*(w0); u(r0,w1); d(r1,w0)}". Where a rule is broken, `test` is left as it was.
@@ -131,5 +135,9 @@ uint32_t mt_break_off(struct mt_test *test, struct mt_access *access);
 
 /* How many accesses the whole test has, or 0 for a spoilt state. A lock lasts for as many accesses. */
 uint32_t mt_accesses(const struct mt_test *test);
+
+#ifdef __cplusplus
+}
+#endif
 
 #endif
