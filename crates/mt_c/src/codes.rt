@@ -1,6 +1,6 @@
 //! The numbers by which C is told something.
 
-ghost use Rattle.std.specs.Prelude.{◌≡◌, ◌≢◌, ◌+◌};
+ghost use Rattle.std.specs.Prelude.{◌≡◌, ◌≢◌, ◌<◌, ◌+◌};
 ghost use Rattle.mt_march.specs.Reading.{march_number};
 ghost use Rattle.mt_c.specs.Codes.{access_after, refusal_code, reply_number, reply_of};
 
@@ -58,6 +58,7 @@ impl Reply {
 pub(crate) fn tell(due: Due, access: &mut MtAccess) -> u32
     ensures reply { result ≡ reply_number (reply_of due) }
     ensures access { access.new ≡ access_after due access.old }
+    ensures told { result < 6 }
 {
     match due {
         Due::Read(address) => {

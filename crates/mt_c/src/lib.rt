@@ -4,12 +4,12 @@
 //! test is refused and stays as it was.
 #![tactic(auto)]
 
-ghost use Rattle.std.specs.Prelude.{◌≡◌, ◌≢◌, true, false};
+ghost use Rattle.std.specs.Prelude.{◌≡◌, ◌≢◌, ◌≤◌, true, false};
 ghost use Rattle.mt_engine.specs.Setup.{plan_of};
 ghost use Rattle.mt_engine.specs.Testing.{answered, broken_off, due, is_no_answer, may_break_off, set_up};
 ghost use Rattle.mt_seq.specs.Sequence.{sequence_hold};
 ghost use Rattle.mt_c.specs.Codes.{access_after, refusal_told, reply_number, reply_of};
-ghost use Rattle.mt_c.specs.State.{bit, settings_of, testing_of, IsState};
+ghost use Rattle.mt_c.specs.State.{bit, settings_of, testing_of, text_of, IsState};
 
 mod codes;
 mod state;
@@ -63,6 +63,9 @@ pub extern "C" fn mt_next(test: &mut MtTest, answer: u64, access: &mut MtAccess)
     ensures no_word { IsState test.old → is_no_answer (due (testing_of test.old)) (testing_of test.old).width answer ≡ true → result ≡ reply_number Reply.NoWord }
     ensures stays { result ≡ reply_number Reply.Spoilt → test.new ≡ test.old }
     ensures due_still { result ≡ reply_number Reply.NoWord → test.new ≡ test.old }
+    ensures untold { reply_number Reply.NoWord ≤ result → access.new ≡ access.old }
+    ensures settings { test.new.settings ≡ test.old.settings }
+    ensures text { text_of test.new ≡ text_of test.old }
     ensures state { IsState test.old → IsState test.new }
     ensures answered { IsState test.old → is_no_answer (due (testing_of test.old)) (testing_of test.old).width answer ≡ false
         → testing_of test.new ≡ answered (testing_of test.old) answer }
@@ -103,6 +106,9 @@ pub extern "C" fn mt_break_off(test: &mut MtTest, access: &mut MtAccess) -> u32
     ensures too_late { IsState test.old → may_break_off (testing_of test.old) ≡ false → result ≡ reply_number Reply.TooLate }
     ensures stays { result ≡ reply_number Reply.Spoilt → test.new ≡ test.old }
     ensures goes_on { result ≡ reply_number Reply.TooLate → test.new ≡ test.old }
+    ensures untold { reply_number Reply.NoWord ≤ result → access.new ≡ access.old }
+    ensures settings { test.new.settings ≡ test.old.settings }
+    ensures text { text_of test.new ≡ text_of test.old }
     ensures state { IsState test.old → IsState test.new }
     ensures broken_off { IsState test.old → may_break_off (testing_of test.old) ≡ true → testing_of test.new ≡ broken_off (testing_of test.old) }
     ensures reply { IsState test.old → may_break_off (testing_of test.old) ≡ true → result ≡ reply_number (reply_of (due (testing_of test.new))) }
