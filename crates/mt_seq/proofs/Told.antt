@@ -12,7 +12,7 @@ use Rattle.mt_plan.specs.declared.algorithm.Step.{Step}
 use Rattle.mt_plan.specs.Plan.{steps_of}
 use Rattle.mt_seq.specs.declared.sequence.Slice.{Slice}
 use Rattle.mt_seq.specs.declared.sequence.Job.{Job}
-use Rattle.mt_seq.specs.Sequence.{saving, testing, ending, last_of, listed, sequence_hold}
+use Rattle.mt_seq.specs.Sequence.{saving, testing, ending, last_of}
 use Rattle.mt_seq.specs.Stepping.{Stepping, agreed, begun, item_at, stepped, saved_after}
 use Rattle.mt_seq.specs.Told.{all_agreed, known_after, told, sequence_told, AnswersMakeTheSequence, IsTold, ToldSequencesAreHolds, SavedWordsAreWrittenBack}
 use Rattle.mt_seq.proofs.Attempts.{hold_is_long}

@@ -1,4 +1,4 @@
-use Rattle.std.proofs.Common.{◌≡◌, ◌+◌, ◌-◌, ◌<◌, ◌≤◌, ℕ, Some, arith, refl, ap, sym, ◌∙◌, length}
+use Rattle.std.proofs.Common.{◌≡◌, ◌+◌, ◌-◌, ◌<◌, ◌≤◌, ℕ, Some, arith, ap, sym, ◌∙◌, length}
 use Rattle.mt_fault.specs.Items.{Store}
 use Rattle.mt_plan.specs.declared.algorithm.Policy.{Policy}
 use Rattle.mt_plan.specs.declared.algorithm.Policy.TheVariants.{NonDestructive, Destructive}
@@ -6,10 +6,10 @@ use Rattle.mt_plan.specs.Plan.{steps_of}
 use Rattle.mt_seq.specs.declared.sequence.Slice.{Slice}
 use Rattle.mt_seq.specs.declared.sequence.Job.{Job}
 use Rattle.mt_seq.specs.Sequence.{saving, sequence_hold}
-use Rattle.mt_seq.specs.Stepping.{item_at, item_of_access}
+use Rattle.mt_seq.specs.Stepping.{item_at}
 use Rattle.mt_seq.proofs.Attempts.{hold_is_long}
 use Rattle.mt_seq.proofs.Lengths.{hold_is, length-saving}
-use Rattle.mt_seq.proofs.Moves.{saving_item, ending_item, saving_few}
+use Rattle.mt_seq.proofs.Moves.{saving_item, ending_item}
 use Rattle.mt_seq.proofs.indexing.access_at.Goals as goal
 
 -- a place behind the algorithm's accesses is one of the writes that end the sequence
