@@ -11,3 +11,4 @@ pub mod Endings
 pub mod Urgent
 pub mod Spans
 pub mod SpanRuns
+pub mod Told

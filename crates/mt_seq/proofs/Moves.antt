@@ -18,7 +18,7 @@ use Rattle.mt_seq.specs.declared.course.Course.{Course}
 use Rattle.mt_seq.specs.declared.sequence.Slice.{Slice}
 use Rattle.mt_seq.specs.declared.sequence.Job.{Job}
 use Rattle.mt_seq.specs.Sequence.{saving, testing, ending, back_of, last_of}
-use Rattle.mt_seq.specs.Stepping.{item_at, view_of, stepped, saved_after, agreed, IsCourse, IsMoved, IsNoLook}
+use Rattle.mt_seq.specs.Stepping.{Stepping, item_at, view_of, stepped, saved_after, agreed, IsCourse, IsMoved, IsNoLook}
 use Rattle.mt_seq.proofs.Lengths.{length-saving, length-testing}
 
 pub saving_at : (policy : Policy) (slice : Slice) (i : ℕ) → i < length (saving policy slice) → slice_get (saving policy slice) i ≡ Some (Look (slice.first + i))
@@ -29,33 +29,47 @@ pub saving_few : (policy : Policy) (slice : Slice) → length (saving policy sli
 saving_few NonDestructive slice = omega (arith, length-saving slice)
 saving_few Destructive slice = omega arith
 
-pub item_saving : (width : Width) (job : Job) (c : Course) → IsCourse job c → c.made < c.testing_from → item_at width (view_of job c) ≡ Some (Look (c.slice.first + c.made))
+-- ---- the accesses of a sequence by their indices
+
+pub saving_item : (width : Width) (s : Stepping) → s.made < length (saving s.job.policy s.slice) → item_at width s ≡ Some (Look (s.slice.first + s.made))
 unfolding item_at
-item_saving width job c is h =
-    let steps : List Step = steps_of job.alg c.slice.n in
-    in_front (saving job.policy c.slice ++ testing width job c.slice c.saved.items steps) (ending job c.slice c.saved.items) c.made _
-    (in_front (saving job.policy c.slice) (testing width job c.slice c.saved.items steps) c.made _ (saving_at job.policy c.slice c.made (omega (arith, is.from))))
+saving_item width s h =
+    let steps : List Step = steps_of s.job.alg s.slice.n in
+    in_front (saving s.job.policy s.slice ++ testing width s.job s.slice s.saved steps) (ending s.job s.slice s.saved) s.made _
+    (in_front (saving s.job.policy s.slice) (testing width s.job s.slice s.saved steps) s.made _ (saving_at s.job.policy s.slice s.made h))
+
+pub testing_item : (width : Width) (s : Stepping) (i : ℕ) (t : Step) → s.made ≡ length (saving s.job.policy s.slice) + i
+    → slice_get (steps_of s.job.alg s.slice.n) i ≡ Some t → item_at width s ≡ Some (item_of width s.slice.first (back_of s.job s.saved) t)
+unfolding item_at
+testing_item width s i t made at =
+    let steps : List Step = steps_of s.job.alg s.slice.n in
+    in_front (saving s.job.policy s.slice ++ testing width s.job s.slice s.saved steps) (ending s.job s.slice s.saved) s.made _
+    (behind (saving s.job.policy s.slice) (testing width s.job s.slice s.saved steps) i s.made _ made
+    (at_map (item_of width s.slice.first (back_of s.job s.saved)) steps i t at))
+
+pub ending_item : (width : Width) (s : Stepping) (k : ℕ) → s.made ≡ length (saving s.job.policy s.slice) + length (steps_of s.job.alg s.slice.n) + k → k < s.slice.n
+    → item_at width s ≡ Some (Store (s.slice.first + k) (last_of s.job.policy s.job.fill s.saved k))
+unfolding item_at
+ending_item width s k made h =
+    let steps : List Step = steps_of s.job.alg s.slice.n in
+    let long : length (saving s.job.policy s.slice ++ testing width s.job s.slice s.saved steps) + k ≡ s.made =
+    omega (arith, length-append (saving s.job.policy s.slice) (testing width s.job s.slice s.saved steps), length-testing width s.job s.slice s.saved steps, made) in
+    behind (saving s.job.policy s.slice ++ testing width s.job s.slice s.saved steps) (ending s.job s.slice s.saved) k s.made _ (sym long)
+    (at_map (λ (cell : ℕ). Store (s.slice.first + cell) (last_of s.job.policy s.job.fill s.saved cell)) (cells s.slice.n) k k (at_cells s.slice.n k h))
+
+-- ---- the next access of a course
+
+pub item_saving : (width : Width) (job : Job) (c : Course) → IsCourse job c → c.made < c.testing_from → item_at width (view_of job c) ≡ Some (Look (c.slice.first + c.made))
+item_saving width job c is h = saving_item width (view_of job c) (omega (arith, is.from))
 
 pub item_testing : (width : Width) (job : Job) (c : Course) (t : Step) → IsCourse job c → c.testing_from ≤ c.made → c.made < c.ending_from
     → slice_get (steps_of job.alg c.slice.n) (made_by c.steps) ≡ Some t
     → item_at width (view_of job c) ≡ Some (item_of width c.slice.first (back_of job c.saved.items) t)
-unfolding item_at
-item_testing width job c t is from to at =
-    let steps : List Step = steps_of job.alg c.slice.n in
-    in_front (saving job.policy c.slice ++ testing width job c.slice c.saved.items steps) (ending job c.slice c.saved.items) c.made _
-    (behind (saving job.policy c.slice) (testing width job c.slice c.saved.items steps) (made_by c.steps) c.made _ (omega (arith, is.from, is.during from (omega arith)))
-    (at_map (item_of width c.slice.first (back_of job c.saved.items)) steps (made_by c.steps) t at))
+item_testing width job c t is from to at = testing_item width (view_of job c) (made_by c.steps) t (omega (arith, is.from, is.during from (omega arith))) at
 
 pub item_ending : (width : Width) (job : Job) (c : Course) → IsCourse job c → c.ending_from ≤ c.made → c.made < c.ending_from + c.slice.n
     → item_at width (view_of job c) ≡ Some (Store (c.slice.first + (c.made - c.ending_from)) (last_of job.policy job.fill c.saved.items (c.made - c.ending_from)))
-unfolding item_at
-item_ending width job c is from to =
-    let steps : List Step = steps_of job.alg c.slice.n in
-    let k : ℕ = c.made - c.ending_from in
-    let long : length (saving job.policy c.slice ++ testing width job c.slice c.saved.items steps) + k ≡ c.made =
-    omega (arith, length-append (saving job.policy c.slice) (testing width job c.slice c.saved.items steps), length-testing width job c.slice c.saved.items steps, is.from, is.to) in
-    behind (saving job.policy c.slice ++ testing width job c.slice c.saved.items steps) (ending job c.slice c.saved.items) k c.made _ (sym long)
-    (at_map (λ (cell : ℕ). Store (c.slice.first + cell) (last_of job.policy job.fill c.saved.items cell)) (cells c.slice.n) k k (at_cells c.slice.n k (omega arith)))
+item_ending width job c is from to = ending_item width (view_of job c) (c.made - c.ending_from) (omega (arith, is.from, is.to)) (omega arith)
 
 -- ---- the course after an access
 

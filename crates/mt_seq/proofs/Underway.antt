@@ -89,23 +89,28 @@ saved_long Destructive fault words slice = refl
 pub whole_saved : (policy : Policy) (fault : Option Fault) (words : List ℕ) (slice : Slice) (i : ℕ) → length (saving policy slice) ≤ i → take i (saved_words policy fault words slice) ≡ saved_words policy fault words slice
 whole_saved policy fault words slice i h = take_all i (saved_words policy fault words slice) (omega (arith, saved_long policy fault words slice))
 
--- what is listed with the words saved so far has the same next access
-pub next_same : (b : Board) (s : Stepping) (width : Width) → width ≡ b.shape.width → s.saved ≡ take s.made (saved_words s.job.policy b.fault b.words s.slice)
-    → item_at width s ≡ slice_get (sequence b s.job s.slice) s.made
-unfolding item_at sequence accesses_of
-next_same b s width same saved =
-    let all : List ℕ = saved_words s.job.policy b.fault b.words s.slice in
+-- what is listed with the words saved so far has the same next access as what is listed with all of them
+pub next_listed : (width : Width) (s : Stepping) (all : List ℕ) → length all ≤ length (saving s.job.policy s.slice) → s.saved ≡ take s.made all
+    → item_at width s ≡ slice_get (listed width s.job s.slice all (steps_of s.job.alg s.slice.n)) s.made
+unfolding item_at
+next_listed width s all few saved =
     let steps : List Step = steps_of s.job.alg s.slice.n in
     let front : List Item = saving s.job.policy s.slice in
     elim (cases_lt s.made (length front)) [
       | inl lt ↦
           ap (λ (l : List Item). slice_get l s.made) (append_assoc front (testing width s.job s.slice s.saved steps) (ending s.job s.slice s.saved))
           ∙ front_same front _ _ s.made lt
-          ∙ ap (λ (l : List Item). slice_get l s.made) (sym (append_assoc front (testing b.shape.width s.job s.slice all steps) (ending s.job s.slice all)))
-      | inr le ↦
-          ap (λ (l : List ℕ). slice_get (listed width s.job s.slice l steps) s.made) (saved ∙ whole_saved s.job.policy b.fault b.words s.slice s.made le)
-          ∙ ap (λ (w : Width). slice_get (listed w s.job s.slice all steps) s.made) same
+          ∙ ap (λ (l : List Item). slice_get l s.made) (sym (append_assoc front (testing width s.job s.slice all steps) (ending s.job s.slice all)))
+      | inr le ↦ ap (λ (l : List ℕ). slice_get (listed width s.job s.slice l steps) s.made) (saved ∙ take_all s.made all (omega arith))
     ]
+
+pub next_same : (b : Board) (s : Stepping) (width : Width) → width ≡ b.shape.width → s.saved ≡ take s.made (saved_words s.job.policy b.fault b.words s.slice)
+    → item_at width s ≡ slice_get (sequence b s.job s.slice) s.made
+unfolding sequence accesses_of
+next_same b s width same saved =
+    let all : List ℕ = saved_words s.job.policy b.fault b.words s.slice in
+    next_listed width s all (omega (arith, saved_long s.job.policy b.fault b.words s.slice)) saved
+    ∙ ap (λ (w : Width). slice_get (listed w s.job s.slice all (steps_of s.job.alg s.slice.n)) s.made) same
 
 act_no_look : (width : Width) (addr back : ℕ) (act : Act) → IsNoLook (act_on width addr back act)
 act_no_look width addr back WritePlain = tt
@@ -114,7 +119,7 @@ act_no_look width addr back ReadPlain = tt
 act_no_look width addr back ReadFlipped = tt
 
 -- behind the saving reads there is none
-later_no_look : (width : Width) (job : Job) (slice : Slice) (saved : List ℕ) (steps : List Step) (i : ℕ) (item : Item) → length (saving job.policy slice) ≤ i
+pub later_no_look : (width : Width) (job : Job) (slice : Slice) (saved : List ℕ) (steps : List Step) (i : ℕ) (item : Item) → length (saving job.policy slice) ≤ i
     → slice_get (listed width job slice saved steps) i ≡ Some item → IsNoLook item
 later_no_look width job slice saved steps i item h at =
     let front : List Item = saving job.policy slice in
@@ -128,7 +133,7 @@ later_no_look width job slice saved steps i item h at =
     here
 
 -- before that there are only these
-early_look : (width : Width) (job : Job) (slice : Slice) (saved : List ℕ) (steps : List Step) (i : ℕ) → i < length (saving job.policy slice)
+pub early_look : (width : Width) (job : Job) (slice : Slice) (saved : List ℕ) (steps : List Step) (i : ℕ) → i < length (saving job.policy slice)
     → slice_get (listed width job slice saved steps) i ≡ Some (Look (slice.first + i))
 early_look width job slice saved steps i h =
     in_front (saving job.policy slice ++ testing width job slice saved steps) (ending job slice saved) i _
@@ -155,7 +160,7 @@ same_look a b answer (Look addr) board e is saved = (refl, let same : addr ≡ a
 same_look a b answer (Check addr word) board e is saved = cc
 same_look a b answer (Store addr word) board e is saved = cc
 
-no_look_saves : (item : Item) (saved : List ℕ) (answer : ℕ) → IsNoLook item → saved_after saved item answer ≡ saved
+pub no_look_saves : (item : Item) (saved : List ℕ) (answer : ℕ) → IsNoLook item → saved_after saved item answer ≡ saved
 no_look_saves (Look addr) saved answer is = absurd is
 no_look_saves (Check addr word) saved answer is = refl
 no_look_saves (Store addr word) saved answer is = refl

@@ -4,5 +4,6 @@ pub mod Makes
 pub mod Stepping
 pub mod Compare
 pub mod Attempts
+pub mod Told
 pub mod Laws
 pub mod Inner

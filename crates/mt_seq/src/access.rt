@@ -59,7 +59,7 @@ impl Access {
 
     /// Whether the access is no checked read that answered another word.
     #[inline(always)]
-    pub(crate) fn agrees(self, answer: u64) -> bool
+    pub fn agrees(self, answer: u64) -> bool
         ensures { result ≡ agreed (item_of_access self) answer }
     {
         match self {

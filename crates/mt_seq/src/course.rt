@@ -34,7 +34,7 @@ pub struct Course {
     steps: Steps,
 }
 
-fn is_transparent(alg: &Algorithm) -> bool
+pub(crate) fn is_transparent(alg: &Algorithm) -> bool
     ensures { result ≡ is_transparent alg.now }
 {
     match alg {
@@ -45,7 +45,7 @@ fn is_transparent(alg: &Algorithm) -> bool
 }
 
 /// How many saving reads there are.
-fn saving_reads(policy: Policy, slice: Slice) -> u32
+pub(crate) fn saving_reads(policy: Policy, slice: Slice) -> u32
     ensures count { result ≡ length (saving policy slice) }
     ensures few { result ≤ slice.n }
 {

@@ -2,6 +2,7 @@
 
 ghost use Rattle.mt_seq.specs.Laws.{SoundMemoryPasses, SoundMemoryStays, CaughtFaultsFail, SequencesAreShort, HoldsAreLengths, ComparisonsArePairs, NothingIsFoundWhereAllEqual};
 ghost use Rattle.mt_seq.specs.Laws.{SequencesBegin, SequencesGoOn, SequencesEnd, AttemptsAreCounted, AttemptsAreShort, AttemptsAreTold, NoAttemptIsEmpty, DroppedAttemptsServe, DroppedAttemptsStay, UrgentWaitsAreShort, WholeAttemptsPass};
+ghost use Rattle.mt_seq.specs.Told.{AnswersMakeTheSequence, SavedWordsAreWrittenBack, ToldSequencesAreHolds};
 
 /// On sound memory each sequence passes, and the words stay as they were, or the fill is left.
 pub fn sound_memory()
@@ -24,6 +25,15 @@ pub fn steps_make_the_sequence()
     ensures begin { SequencesBegin }
     ensures go_on { SequencesGoOn }
     ensures end { SequencesEnd }
+{}
+
+/// Whatever a sequence is answered, its accesses are those of the list of these answers, one after another and as many as its
+/// hold says, and it differs where a checked read among them answered another word. The last of them write the saved words
+/// back, where the words are kept.
+pub fn answers_make_the_sequence()
+    ensures told { AnswersMakeTheSequence }
+    ensures count { ToldSequencesAreHolds }
+    ensures back { SavedWordsAreWrittenBack }
 {}
 
 /// The list of a sequence is as long as its hold.

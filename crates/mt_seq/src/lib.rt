@@ -5,6 +5,7 @@ mod access;
 mod attempt;
 mod compare;
 mod course;
+mod indexing;
 mod laws;
 mod run;
 mod sequence;
@@ -14,10 +15,11 @@ mod stepper;
 pub use access::Access;
 pub use attempt::{run_slice, try_slice};
 pub use compare::run_compare;
+pub use indexing::access_at;
 pub use laws::{
-    attempts_are_counted, attempts_on_sound_memory, caught_faults_fail, comparisons_are_exact,
-    holds_are_lengths, sequences_are_short, sound_memory, steps_make_the_sequence,
-    urgent_requests_wait_shortly,
+    answers_make_the_sequence, attempts_are_counted, attempts_on_sound_memory, caught_faults_fail,
+    comparisons_are_exact, holds_are_lengths, sequences_are_short, sound_memory,
+    steps_make_the_sequence, urgent_requests_wait_shortly,
 };
 pub use sequence::{Frame, Job, Slice, Verdict};
 pub use stepper::{Progress, Stepper};

@@ -1,0 +1,143 @@
+/*
+ * Tests of memory words in slices, for a caller that makes the accesses.
+ *
+ * The library never touches the memory under test. It says which access comes next, and is told what a read answered. It
+ * allocates nothing and keeps nothing between two calls: all that a test is stands in the caller's `struct mt_test`.
+ *
+ *     struct mt_access access;
+ *     uint32_t reply = mt_due(&test, &access);
+ *     while (reply == MT_READ || reply == MT_WRITE) {
+ *         uint64_t answer = 0;
+ *         if (reply == MT_READ)
+ *             answer = ram[access.address];
+ *         else
+ *             ram[access.address] = (uint32_t)access.word;
+ *         reply = mt_next(&test, answer, &access);
+ *     }
+ *
+ * Interrupts are locked by the caller from the first access to the end of the test, or to that of its breaking off: between
+ * two accesses no one else may touch the words. Each access is to be one volatile access of the memory, and no copy of it.
+ *
+ * The caller upholds that pointers are good, do not overlap, and point to values that were written; that `length` is that of
+ * the text; and that a test is in one call at a time. What they point to may be any numbers: they are looked at, and refused.
+ */
+#ifndef MT_H
+#define MT_H
+
+#include <assert.h>
+#include <stddef.h>
+#include <stdint.h>
+
+/* The most words that a slice has, and the most bytes of an algorithm's text. */
+#define MT_WORDS 64
+#define MT_TEXT 448
+
+/* How many bytes a test has. */
+#define MT_TEST_SIZE 1008
+
+/* The words are as they were after the test, or hold the fill. */
+enum mt_policy { MT_KEEP_WORDS = 0, MT_FILL_WORDS = 1 };
+
+/* What a test is to be. */
+struct mt_settings {
+    uint32_t width;      /* bits of a word: 8, 16, 32 or 64 */
+    uint32_t policy;     /* MT_KEEP_WORDS or MT_FILL_WORDS */
+    uint32_t first;      /* the address of the first word, counted in words */
+    uint32_t count;      /* how many words, 1 to MT_WORDS; first + count is below 2^32 */
+    uint64_t background; /* the word that is written beside its complement; 0 is usual */
+    uint64_t fill;       /* the word that MT_FILL_WORDS leaves */
+};
+
+/* A test under way. Its fields are the library's: a caller copies or drops the whole, and changes none of them. */
+struct mt_test {
+    struct mt_settings settings;
+    uint32_t length;
+    uint32_t made;
+    uint32_t differs;
+    uint32_t broken;
+    uint8_t text[MT_TEXT];
+    uint64_t saved[MT_WORDS];
+};
+
+/* An access. `word` is that of a write; at a read it has no meaning. */
+struct mt_access {
+    uint64_t word;
+    uint32_t address;
+};
+
+/* Why no test was set up: the number of the rule, and of a march the place in its text, counted in bytes from 1. */
+struct mt_refusal {
+    uint32_t rule;
+    uint32_t place;
+};
+
+static_assert(sizeof(struct mt_settings) == 32, "the layout of mt_settings");
+static_assert(sizeof(struct mt_test) == MT_TEST_SIZE, "the layout of mt_test");
+static_assert(offsetof(struct mt_test, text) == 48, "the layout of mt_test");
+static_assert(offsetof(struct mt_test, saved) == 496, "the layout of mt_test");
+static_assert(sizeof(struct mt_access) == 16, "the layout of mt_access");
+static_assert(sizeof(struct mt_refusal) == 8, "the layout of mt_refusal");
+
+/* The rules of a set-up. Of several that are broken the first is told. */
+enum mt_rule {
+    MT_SET_UP = 0,              /* none is broken */
+    MT_BAD_WIDTH = 1,           /* the width is none of 8, 16, 32 and 64 */
+    MT_BAD_POLICY = 2,          /* the policy is none of the two */
+    MT_BAD_COUNT = 3,           /* no word, or more than MT_WORDS */
+    MT_BAD_ADDRESSES = 4,       /* first + count is 2^32 or more */
+    MT_BAD_BACKGROUND = 5,      /* the background is no word of the width */
+    MT_BAD_FILL = 6,            /* the fill is no word of the width, whatever the policy is */
+    MT_LONG_TEXT = 7,           /* the text has more than MT_TEXT bytes */
+    MT_TRANSPARENT_FILL = 8,    /* transparent-galpat with MT_FILL_WORDS */
+    MT_MARCH_SPELLING = 9,      /* the text is no name, and no march */
+    MT_MARCH_TOO_LONG = 10,     /* more than 16 elements, or 8 operations in one */
+    MT_MARCH_READS_FIRST = 11,  /* a read comes before the first write */
+    MT_MARCH_EXPECTATION = 12,  /* a read expects what the last write did not write */
+    MT_MARCH_ONE_VALUE = 13     /* no read expects 0, or none expects 1 */
+};
+
+/* What the calls reply. */
+enum mt_reply {
+    MT_READ = 1,       /* read the word at access.address, and tell it */
+    MT_WRITE = 2,      /* write access.word to access.address; the answer is not looked at */
+    MT_PASS = 3,       /* it has ended: each checked read answered its word */
+    MT_FAIL = 4,       /* it has ended: a checked read answered another word */
+    MT_BROKEN_OFF = 5, /* it was broken off, and the words are back */
+    MT_NO_WORD = 6,    /* the answer is no word of the width; the access is still due */
+    MT_TOO_LATE = 7,   /* it cannot be broken off; it goes on as it was */
+    MT_SPOILT = 8      /* the state is none of a test; it was left as it was */
+};
+
+#ifdef __cplusplus
+extern "C" {
+#endif
+
+/*
+ * Sets a test up. `text` is a name (checkerboard, walk-path, galpat, transparent-galpat, march-c-minus, mats-plus) or a march,
+ * as "{*(w0); u(r0,w1); d(r1,w0)}". Where a rule is broken, `test` is left as it was.
+ */
+struct mt_refusal mt_set_up(struct mt_test *test, const struct mt_settings *settings, const char *text, size_t length);
+
+/* Tells the access that is due, or how the test has ended. The test stays as it is. */
+uint32_t mt_due(const struct mt_test *test, struct mt_access *access);
+
+/* Takes in what the access that was due answered, and tells the next one, or how the test has ended. */
+uint32_t mt_next(struct mt_test *test, uint64_t answer, struct mt_access *access);
+
+/* Whether the test may be broken off now: 1, or 0. It may while it keeps the words, up to the writes that end it. */
+uint32_t mt_may_break_off(const struct mt_test *test);
+
+/*
+ * Breaks the test off, and tells the first of the writes of the saved words, or MT_BROKEN_OFF where nothing was written yet.
+ * `mt_next` tells the others. A test that was broken off is set up anew to be tried again.
+ */
+uint32_t mt_break_off(struct mt_test *test, struct mt_access *access);
+
+/* How many accesses the whole test has, or 0 for a spoilt state. A lock lasts for as many accesses. */
+uint32_t mt_accesses(const struct mt_test *test);
+
+#ifdef __cplusplus
+}
+#endif
+
+#endif
