@@ -163,8 +163,7 @@ found-exact : FaultsOfTheSliceAreListed → ExplainsIsTested → (l : Located) (
 unfolding explaining
 found-exact listed tested l fault =
     let all = faults_of l.probe.width l.probe.first l.probe.n in
-    let test = explains l.probe l.misses in
-    (
+    let test = explains l.probe l.misses in (
       λ h. (
         (listed l.probe.width l.probe.first l.probe.n fault).0 (All-contains (Contains all) (filter test all) fault (All-filter test (Contains all) all (All-contains_itself all)) h),
         (tested l.probe l.misses fault).0 (All-contains (λ f. test f ≡ true) (filter test all) fault (filter_passes test all) h),

@@ -118,7 +118,14 @@ fn locate_lines<S: Source, K: Sink>(
 {
     let mut misses = Vec::new(alloc);
     let sets = config.ram_tst.sets.as_slice();
-    match read_located(input, source, config.shape, config.initial, sets, &mut misses) {
+    match read_located(
+        input,
+        source,
+        config.shape,
+        config.initial,
+        sets,
+        &mut misses,
+    ) {
         Ok(probe) => tell_list(alloc, &probe, &misses, config.shape, sink),
         Err(stop) => tell_stop(sink, stop),
     }
