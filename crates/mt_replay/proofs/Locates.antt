@@ -1,7 +1,8 @@
 -- What `locate` gives, by what came of its lines.
 use Rattle.std.proofs.Common.{ℕ, zero, suc, ◌≡◌, ◌≤◌, ◌<◌, arith, Bool, true, false, cond, inl, inr, ◌⊎◌, List, [], ◌∷◌, ◌++◌, length, Option, Some, None, Result, Ok, Err, refl, sym, ap, ◌∙◌, subst, append_assoc}
 use Rattle.std.proofs.lemmas.List.Elements.{All-contains, All-filter, All-contains_itself, filter_passes}
-use Rattle.std.specs.Prelude.{Contains, IsTrue, ◌↔◌, filter, slice_index_or}
+use Rattle.std.proofs.lemmas.List.Kept.{AllPairs-filter}
+use Rattle.std.specs.Prelude.{AllPairs, ◌≢◌, Contains, IsTrue, ◌↔◌, filter, slice_index_or}
 use Rattle.mt_window.specs.Kept.{cond_case}
 use Rattle.std.specs.Io.KnownBytes.{prepend_known}
 use Rattle.mt_port.specs.Causes.{Rose}
@@ -25,7 +26,7 @@ use Rattle.mt_replay.specs.declared.form.Asked.TheVariants as asks
 use Rattle.mt_fault.specs.declared.fault.Fault.{Fault}
 use Rattle.mt_locate.specs.Moved.{IsFaultOfSlice}
 use Rattle.mt_locate.specs.Explanations.{Explains}
-use Rattle.mt_locate.specs.Listed.{faults_of, explains, explaining, FaultsOfTheSliceAreListed, ExplainsIsTested}
+use Rattle.mt_locate.specs.Listed.{faults_of, explains, explaining, FaultsOfTheSliceAreListed, FaultsAreListedOnce, ExplainsIsTested}
 use Rattle.mt_conf.specs.Outcome.{outcome as config_of}
 use Rattle.mt_conf.specs.declared.config.ConfigRefusal.{ConfigRefusal}
 use Rattle.mt_replay.specs.Outcome.{Outcome, bad_config, judged_job}
@@ -171,16 +172,21 @@ found-exact listed tested l fault =
       λ h. let m = (listed l.probe.width l.probe.first l.probe.n fault).1 h.0 in filtered test all fault m.0 m.1 m.2 ((tested l.probe l.misses fault).1 h.1),
     )
 
-locating-exact : FaultsOfTheSliceAreListed → ExplainsIsTested → LocatingIsExact
-locating-exact listed tested bytes text behind c l job is short read = (
+found-once : FaultsAreListedOnce → (l : Located) → AllPairs ◌≢◌ (found_faults l)
+unfolding explaining
+found-once once l = AllPairs-filter ◌≢◌ (explains l.probe l.misses) (faults_of l.probe.width l.probe.first l.probe.n) (once l.probe.width l.probe.first l.probe.n)
+
+locating-exact : FaultsOfTheSliceAreListed → ExplainsIsTested → FaultsAreListedOnce → LocatingIsExact
+locating-exact listed tested once bytes text behind c l job is short read = (
   ap (λ (o : Outcome). o.text)
       (locating-is Finished bytes ∙ ap (judged_job (locating_by Finished) Finished) job
       ∙ ap (λ (b : Bool). cond b (bad_config (because.Rule 18)) (locating_by Finished (config_of text) behind)) (small (length text) short)
       ∙ ap (λ (r : Result Config ConfigRefusal). locating_by Finished r behind) is ∙ ap (lines_give c.shape) read),
   found-exact listed tested l,
+  found-once once l,
 )
 
-pub lists_what_explains : FaultsOfTheSliceAreListed → ExplainsIsTested → (asked : Option Asked) → ListsWhatExplains asked
-lists_what_explains listed tested None = tt
-lists_what_explains listed tested (Some (asks.Job form)) = tt
-lists_what_explains listed tested (Some asks.Locate) = locating-exact listed tested
+pub lists_what_explains : FaultsOfTheSliceAreListed → ExplainsIsTested → FaultsAreListedOnce → (asked : Option Asked) → ListsWhatExplains asked
+lists_what_explains listed tested once None = tt
+lists_what_explains listed tested once (Some (asks.Job form)) = tt
+lists_what_explains listed tested once (Some asks.Locate) = locating-exact listed tested once

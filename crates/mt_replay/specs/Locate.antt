@@ -1,5 +1,5 @@
 -- What the form `locate` gives: the single faults that explain what was missed in a slice.
-use Rattle.std.specs.Prelude.{ℕ, ◌≡◌, ◌≤◌, ◌↔◌, List, ◌++◌, length, codes, Contains, Result, Ok, Err}
+use Rattle.std.specs.Prelude.{ℕ, ◌≡◌, ◌≤◌, ◌↔◌, ◌≢◌, AllPairs, List, ◌++◌, length, codes, Contains, Result, Ok, Err}
 use Rattle.std.specs.Fmt.{decimal}
 use Rattle.mt_fault.specs.declared.fault.Fault.{Fault}
 use Rattle.mt_port.specs.declared.board.Shape.{Shape}
@@ -53,10 +53,12 @@ locating_by ending (Ok c) behind = lines_give c.shape (located c.shape c.initial
 unfoldable pub locating : Ending → List ℕ → Outcome
 locating ending bytes = judged_job (locating_by ending) ending (job_of ending bytes)
 
--- Where the input names a slice and what was missed there, a fault is listed exactly where it lies inside the slice and explains it.
+-- Where the input names a slice and what was missed there, a fault is listed exactly where it lies inside the slice and explains it, and no
+-- fault is listed twice.
 abbrev pub LocatingIsExact : Type 0
 LocatingIsExact =
     (bytes text : List ℕ) (behind : Cut) (c : Config) (l : Located) → job_of Finished bytes ≡ Parted text behind → config_of text ≡ Ok c → length text ≤ 65536
     → located c.shape c.initial c.ram_tst.sets Finished behind ≡ Ok l
     → ((locating Finished bytes).text ≡ found_text c.shape l)
     × ((fault : Fault) → Contains (found_faults l) fault ↔ (IsFaultOfSlice l.probe.width l.probe.first l.probe.n fault × Explains l.probe l.misses fault))
+    × AllPairs ◌≢◌ (found_faults l)

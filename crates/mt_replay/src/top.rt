@@ -13,7 +13,7 @@ use mt_cut::longest_runs_are_least;
 use mt_fls::{
     running_calls_keep_the_board as fls_keeps_the_board, waits_of_running_calls as fls_waits,
 };
-use mt_locate::{explaining_is_tested, faults_of_the_slice_are_listed};
+use mt_locate::{explaining_is_tested, faults_are_listed_once, faults_of_the_slice_are_listed};
 use mt_port::{Bench, Sink, Source};
 use mt_ram::{
     running_calls_keep_the_board as ram_keeps_the_board, running_calls_leave_setting,
@@ -125,6 +125,7 @@ pub fn replay<S: Source, K: Sink, B: Bench>(
     longest_runs_are_least();
     faults_of_the_slice_are_listed();
     explaining_is_tested();
+    faults_are_listed_once();
     ram_waits();
     fls_waits();
     // On sound memory tests leave no trace.

@@ -104,10 +104,10 @@ returns-in-Some-Locate-clause-transparent g c =
     (record { stays = c.attempts_on_sound_memory.ensures.stays; passes = c.attempts_on_sound_memory.ensures.passes }) c.accepted_is_taken.ensures _ (g.B.Port.state c.args.board.now).defect
 
 pub returns-in-Some-Job-clause-exact : goal.returns-in-Some-Job-clause-exact
-returns-in-Some-Job-clause-exact g c = lists_what_explains c.faults_of_the_slice_are_listed.ensures c.explaining_is_tested.ensures _
+returns-in-Some-Job-clause-exact g c = lists_what_explains c.faults_of_the_slice_are_listed.ensures c.explaining_is_tested.ensures c.faults_are_listed_once.ensures _
 
 pub returns-in-Some-Locate-clause-exact : goal.returns-in-Some-Locate-clause-exact
-returns-in-Some-Locate-clause-exact g c = lists_what_explains c.faults_of_the_slice_are_listed.ensures c.explaining_is_tested.ensures _
+returns-in-Some-Locate-clause-exact g c = lists_what_explains c.faults_of_the_slice_are_listed.ensures c.explaining_is_tested.ensures c.faults_are_listed_once.ensures _
 
 pub returns-in-None-clause-exact : goal.returns-in-None-clause-exact
-returns-in-None-clause-exact g c = lists_what_explains c.faults_of_the_slice_are_listed.ensures c.explaining_is_tested.ensures _
+returns-in-None-clause-exact g c = lists_what_explains c.faults_of_the_slice_are_listed.ensures c.explaining_is_tested.ensures c.faults_are_listed_once.ensures _
