@@ -1,6 +1,6 @@
 //! What an event enters.
 
-ghost use Rattle.std.specs.Prelude.{◌≡◌, ◌<◌, [], ◌∷◌, ◌++◌, length};
+ghost use Rattle.std.specs.Prelude.{◌≡◌, ◌<◌, ◌≤◌, [], ◌∷◌, ◌++◌, length};
 
 use crate::reply::Reply;
 use arrayvec::ArrayVec;
@@ -65,8 +65,10 @@ impl EventLog {
         self.kept.clear();
     }
 
+    /// The entries, in the order in which they were made.
     pub fn entries(&self) -> &[Entry]
-        ensures { result.now ≡ self.now }
+        ensures entries { result.now ≡ self.now }
+        ensures few { length result.now ≤ 256 }
     {
         self.kept.as_slice()
     }
