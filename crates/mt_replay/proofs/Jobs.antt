@@ -314,6 +314,7 @@ failed_job status.Usage form c behind defect old new held a left h h' was tape' 
 failed_job (status.BadConfig code) form c behind defect old new held a left h h' was tape' source sink sink' fails begins = absurd fails
 failed_job (status.BadScript line code at) form c behind defect old new held a left h h' was tape' source sink sink' fails begins = absurd fails
 failed_job status.ReadFault form c behind defect old new held a left h h' was tape' source sink sink' fails begins = absurd fails
+failed_job (status.Differs line) form c behind defect old new held a left h h' was tape' source sink sink' fails begins = absurd fails
 
 pub failed_caused : (result : Status) (form : Form) (c : Config) (old new : Board) (source sink sink' : ℕ) (x : Change) → BeginFails result form c old new sink sink' x → StatusCaused result source source sink sink'
 failed_caused status.NoMemory form c old new source sink sink' x fails = (refl, fails.3)
@@ -323,6 +324,7 @@ failed_caused status.Usage form c old new source sink sink' x fails = absurd fai
 failed_caused (status.BadConfig code) form c old new source sink sink' x fails = absurd fails
 failed_caused (status.BadScript line code at) form c old new source sink sink' x fails = absurd fails
 failed_caused status.ReadFault form c old new source sink sink' x fails = absurd fails
+failed_caused (status.Differs line) form c old new source sink sink' x fails = absurd fails
 
 pub failed_board : (result : Status) (form : Form) (c : Config) (old new : Board) (sink sink' : ℕ) (x : Change) → BeginFails result form c old new sink sink' x → (new ≡ old) × (x.tape' ≡ x.tape)
 failed_board status.NoMemory form c old new sink sink' x fails = (fails.0, fails.1)
@@ -332,6 +334,7 @@ failed_board status.Usage form c old new sink sink' x fails = absurd fails
 failed_board (status.BadConfig code) form c old new sink sink' x fails = absurd fails
 failed_board (status.BadScript line code at) form c old new sink sink' x fails = absurd fails
 failed_board status.ReadFault form c old new sink sink' x fails = absurd fails
+failed_board (status.Differs line) form c old new sink sink' x fails = absurd fails
 
 -- outcomes that a configuration decides, with what is behind it
 pub record AreJudged (given : Outcomes) (by : Ending → Given) : Type 0 where
@@ -399,17 +402,18 @@ told-at (Some xs) (Some ys) P bytes e p = (ys, subst (λ (l : List ℕ). P l ys)
 not-risen : (k k' : ℕ) → Stood k k' → Rose k k' → ⊥
 not-risen k k' stood rose = omega (arith, stood.0, stood.1, rose)
 
--- an end other than Done is not what an accepted job gives
-other-end : (how : Status) (given : Outcomes) (old new : Board) (x : Change) (bytes : List ℕ) → x.left ≡ Some bytes → Concluded given how old new x → (given Finished bytes).status ≡ status.Done → how ≡ status.Done
-other-end how given old new x bytes e c done = sym c.status ∙ sym (ap (λ (o : Outcome). o.status) (told-at x.left x.left' _ bytes e c.is).1) ∙ done
+-- what was concluded is what the input gives
+concluded : (how : Status) (given : Outcomes) (old new : Board) (x : Change) (bytes : List ℕ) → x.left ≡ Some bytes → Concluded given how old new x → how ≡ (given Finished bytes).status
+concluded how given old new x bytes e c = sym c.status ∙ sym (ap (λ (o : Outcome). o.status) (told-at x.left x.left' _ bytes e c.is).1)
 
 pub completes : (result : Status) (asked : Asked) (defect : Option MemoryFault) (old new : Board) (source source' sink sink' : ℕ) (x : Change) → JobGives result (asked_outcomes asked defect) old new source source' x
     → StatusCaused result source source' sink sink' → Completes (Some asked) result defect x.left source source' sink sink'
-completes status.Done asked defect old new k k' s s' x gives cause source sink bytes e done = inl refl
-completes (status.BadConfig code) asked defect old new k k' s s' x gives cause source sink bytes e done = inl (other-end (status.BadConfig code) (asked_outcomes asked defect) old new x bytes e gives done)
-completes (status.BadScript line code at) asked defect old new k k' s s' x gives cause source sink bytes e done =
-    inl (other-end (status.BadScript line code at) (asked_outcomes asked defect) old new x bytes e gives done)
-completes status.ReadFault asked defect old new k k' s s' x gives cause source sink bytes e done = absurd (not-risen k k' source cause.0)
-completes status.WriteFault asked defect old new k k' s s' x gives cause source sink bytes e done = absurd (not-risen s s' sink cause.0)
-completes status.NoMemory asked defect old new k k' s s' x gives cause source sink bytes e done = inr refl
-completes status.Usage asked defect old new k k' s s' x gives cause source sink bytes e done = absurd gives
+completes status.Done asked defect old new k k' s s' x gives cause source sink bytes e = inl (concluded status.Done (asked_outcomes asked defect) old new x bytes e gives.0)
+completes (status.BadConfig code) asked defect old new k k' s s' x gives cause source sink bytes e = inl (concluded (status.BadConfig code) (asked_outcomes asked defect) old new x bytes e gives)
+completes (status.BadScript line code at) asked defect old new k k' s s' x gives cause source sink bytes e =
+    inl (concluded (status.BadScript line code at) (asked_outcomes asked defect) old new x bytes e gives)
+completes (status.Differs line) asked defect old new k k' s s' x gives cause source sink bytes e = inl (concluded (status.Differs line) (asked_outcomes asked defect) old new x bytes e gives)
+completes status.ReadFault asked defect old new k k' s s' x gives cause source sink bytes e = absurd (not-risen k k' source cause.0)
+completes status.WriteFault asked defect old new k k' s s' x gives cause source sink bytes e = absurd (not-risen s s' sink cause.0)
+completes status.NoMemory asked defect old new k k' s s' x gives cause source sink bytes e = inr refl
+completes status.Usage asked defect old new k k' s s' x gives cause source sink bytes e = absurd gives

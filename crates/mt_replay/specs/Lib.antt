@@ -6,11 +6,14 @@ pub mod Cut
 pub mod Outcome
 pub mod Locating
 pub mod Locate
+pub mod Verify
+pub mod Soak
 pub mod Changes
 pub mod Latency
 pub mod Plain
 pub mod Memory
 pub mod Ticks
+pub mod Detection
 pub mod Replay
 pub mod Fixed
 pub mod Inner

@@ -114,6 +114,7 @@ abbrev pub JobGives : Status → Outcomes → (old new : Board) → (source sour
 JobGives status.Done given old new source source' x = Concluded given status.Done old new x × WhereTold x.left x.left' (λ before rest. rest ≡ [])
 JobGives (status.BadConfig code) given old new source source' x = Concluded given (status.BadConfig code) old new x
 JobGives (status.BadScript line code place) given old new source source' x = Concluded given (status.BadScript line code place) old new x
+JobGives (status.Differs line) given old new source source' x = Concluded given (status.Differs line) old new x
 JobGives status.ReadFault given old new source source' x = Broken given old new x
 JobGives status.WriteFault given old new source source' x = Cutting given source source' x
 JobGives status.NoMemory given old new source source' x = (x.held' ≡ x.held) × (new ≡ old) × (x.tape' ≡ x.tape)
@@ -160,12 +161,12 @@ IsLeftFree old new = (new ≡ old) ⊎ ((new.held ≡ false) × (new.left ≡ []
 abbrev pub Stood : ℕ → ℕ → Type 0
 Stood before now = (now ≡ before) × (before < 2 ^ 64 - 1)
 
--- Where neither stream failed, an accepted job ends in Done, or no memory was found.
+-- Where neither stream failed, the status is that which the input gives, or no memory was found.
 abbrev pub Completes : Option Asked → Status → Option Fault → (left : Option (List ℕ)) → (source source' sink sink' : ℕ) → Type 0
 Completes None result defect left source source' sink sink' = Unit {0}
 Completes (Some asked) result defect left source source' sink sink' =
-    Stood source source' → Stood sink sink' → (bytes : List ℕ) → left ≡ Some bytes → (asked_outcomes asked defect Finished bytes).status ≡ status.Done
-    → (result ≡ status.Done) ⊎ (result ≡ status.NoMemory)
+    Stood source source' → Stood sink sink' → (bytes : List ℕ) → left ≡ Some bytes
+    → (result ≡ (asked_outcomes asked defect Finished bytes).status) ⊎ (result ≡ status.NoMemory)
 
 -- Whatever bytes a job has, the requests of each step are served in time.
 abbrev pub AreServedInTime : Option Asked → Option Fault → Type 0

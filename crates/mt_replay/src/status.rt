@@ -20,6 +20,8 @@ pub enum Status {
     WriteFault,
     /// No memory was found. Nothing was written.
     NoMemory,
+    /// The given trace is another one: the number of its first other line, from 1.
+    Differs { line: u32 },
 }
 
 /// The number with which the program ends.
@@ -34,5 +36,6 @@ pub fn exit_number(status: &Status) -> u8
         Status::ReadFault => 5,
         Status::WriteFault => 6,
         Status::NoMemory => 7,
+        Status::Differs { .. } => 8,
     }
 }

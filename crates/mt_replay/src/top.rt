@@ -104,7 +104,7 @@ pub fn replay<S: Source, K: Sink, B: Bench>(
     ensures board { LeavesBoard (form_of words.now) (B.state board.old) (B.state board.new) (B.tape board.old)
         (B.tape board.new) }
     ensures free { IsLeftFree (B.state board.old) (B.state board.new) }
-    // Where neither stream failed, an accepted job ends in `Done`, or no memory was found.
+    // Where neither stream failed, the answer is the status that the input gives, or no memory was found.
     ensures complete { Completes (form_of words.now) result (B.state board.old).defect (S.left source.old)
         (S.faults source.old) (S.faults source.new) (K.faults sink.old) (K.faults sink.new) }
     // Whatever bytes the job has, each request of its replay is served where its offset says; it waits 0, or less than the

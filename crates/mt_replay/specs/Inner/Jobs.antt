@@ -127,3 +127,4 @@ BeginFails status.Usage form c old new sink sink' x = ⊥
 BeginFails (status.BadConfig code) form c old new sink sink' x = ⊥
 BeginFails (status.BadScript line code place) form c old new sink sink' x = ⊥
 BeginFails status.ReadFault form c old new sink sink' x = ⊥
+BeginFails (status.Differs line) form c old new sink sink' x = ⊥
