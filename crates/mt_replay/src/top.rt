@@ -97,7 +97,8 @@ pub fn replay<S: Source, K: Sink, B: Bench>(
 ) -> Status
     ensures gives { Replays (form_of words.now) result (B.state board.old).defect (B.state board.old)
         (B.state board.new) (S.faults source.old) (S.faults source.new) (K.faults sink.old) (K.faults sink.new)
-        (change (S.left source.old) (S.left source.new) (K.held sink.old) (K.held sink.new) (B.tape board.old) (B.tape board.new)) }
+        (change (S.left source.old) (S.left source.new)
+        (K.held sink.old) (K.held sink.new) (B.tape board.old) (B.tape board.new)) }
     ensures cause { StatusCaused result (S.faults source.old) (S.faults source.new) (K.faults sink.old)
         (K.faults sink.new) }
     // Only a replay uses the board, whatever becomes of the streams; behind a power-up it is left free.
