@@ -31,3 +31,6 @@ pub mod PassTicks
 pub mod PassParts
 pub mod SetsStay
 pub mod SoundBoards
+pub mod PassLines
+pub mod PassSteps
+pub mod Detects

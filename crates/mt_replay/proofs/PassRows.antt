@@ -32,7 +32,7 @@ pub data Turn (r : RamTst) (x : Position) (call : HandlerCall) : Type 0 where
   Suspends : call ≡ calls.RamSuspend → ram_table.reply r call ≡ Done → ram_table.next r call ≡ suspended r x → Turn r x call
   Resumes : ram_table.next r call ≡ resumed r x → Turn r x call
 
-telling-still : (r : RamTst) (block : ℕ) → next_in (telling r block) r ≡ r
+pub telling-still : (r : RamTst) (block : ℕ) → next_in (telling r block) r ≡ r
 telling-still r block = of (nat_lt block (length r.results))
   where
     of : (b : Bool) → next_in {X = Piece} (cond b (Answers (Result (slice_index_or r.results block NotTested))) (Refuses Range)) r ≡ r

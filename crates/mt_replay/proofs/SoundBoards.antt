@@ -17,6 +17,7 @@ use Rattle.mt_port.specs.declared.request.Request.{Request}
 use Rattle.mt_port.specs.Board.{Board, IsSoundInHandler, IsWithinLimits, memory_of, injected, fitting, begun_words, powered_up}
 use Rattle.mt_cover.specs.Detection.{HasSoundWords}
 use Rattle.mt_window.specs.declared.reply.Reply.TheVariants as replies
+use Rattle.mt_window.specs.declared.reply.TestResult.TheVariants.{NotTested}
 use Rattle.mt_window.specs.Serving.{Scene, scene}
 use Rattle.mt_window.specs.Events.{Running as Events, event as event_of}
 use Rattle.mt_window.specs.Kept.{cond_case}
@@ -33,11 +34,13 @@ use Rattle.mt_text.specs.declared.line.Event.{Event}
 use Rattle.mt_text.specs.declared.line.Event.TheVariants as event
 use Rattle.mt_text.specs.declared.line.Line.{Line}
 use Rattle.mt_text.specs.Accepted.{IsSoundEvent, IsAccepted}
+use Rattle.mt_conf.specs.declared.config.Config.{Config}
+use Rattle.mt_conf.specs.Accepted.{IsAcceptedConfig}
 use Rattle.mt_replay.specs.declared.event.Running.{Running}
 use Rattle.mt_replay.specs.declared.event.Running.TheVariants as rams
 use Rattle.mt_replay.specs.declared.event.FlsRunning.{FlsRunning}
 use Rattle.mt_replay.specs.declared.event.FlsRunning.TheVariants as fls_calls
-use Rattle.mt_replay.specs.Machine.{Machine, Step, events_of, fls_events_of, begun, replied, on_board, running_ram, running_fls, by_service, running_call, service_of, by_fls_service, fls_running_call, fls_service_of, by_event, step}
+use Rattle.mt_replay.specs.Machine.{Machine, Step, events_of, fls_events_of, begun, replied, on_board, running_ram, running_fls, by_service, running_call, service_of, by_fls_service, fls_running_call, fls_service_of, by_event, step, started}
 use Rattle.mt_replay.specs.Memory.{handled}
 use Rattle.mt_replay.specs.Outcome.{played}
 use Rattle.mt_replay.proofs.Scenes.{MemoryLaws, Handlers, HasBoard, Goes, Stands, operation_sound}
@@ -45,7 +48,7 @@ use Rattle.mt_replay.proofs.SceneEvents.{Attempts, Enters, Anything, fresh, any-
 use Rattle.mt_replay.proofs.PassRows.{IsOn}
 use Rattle.mt_replay.proofs.PassEvents.{IsTaken, IsSlice, tick_enters, full_enters, part_enters}
 use Rattle.mt_replay.proofs.PassTicks.{PassLaws}
-use Rattle.mt_replay.proofs.SetsStay.{IsSet, set_taken, service_stays}
+use Rattle.mt_replay.proofs.SetsStay.{IsSet, set_taken, set_low, service_stays}
 
 -- ---- laws
 
@@ -266,3 +269,12 @@ pub played-sound : BoardLaws → (shape : Shape) (z : Setting) → All (IsAccept
 played-sound laws shape z all m [] ok h = h
 played-sound laws shape z all m (line ∷ more) ok h =
     played-sound laws shape z all (step m line).after more (All-tail (IsAccepted shape) line more ok) (step-sound laws shape z all m line (All-head (IsAccepted shape) line more ok) h)
+
+-- the machine at the start
+pub started_sound : BoardLaws → (c : Config) (defect : Option Fault) → IsAcceptedConfig c → IsSoundMachine c.shape (started c defect).modules.ram.setting (started c defect)
+unfolding powered_up
+started_sound laws c defect ok = record {
+  common = refl;
+  words = started_words laws c.shape c.initial defect ok.limits ok.initial;
+  ram = record { setting = refl; results = length-replicate (length (set_at c.ram_tst.sets 0).blocks) NotTested; low = set_low c.shape c.ram_tst.sets 0 ok.ram_tst.sets };
+}
