@@ -241,6 +241,42 @@ fn a_job_that_is_cut(rt: HostRuntime) -> Result<(), Fail> {
     Ok(())
 }
 
+/// What `verify` answers to a job of one line and a trace, where the source fails behind so many bytes of them.
+fn verified(alloc: Global, trace: &str, place: usize) -> Result<(Status, Vec<u8>), Fail> {
+    let claim = format!(in alloc; "{CONFIGURATION}{LINE}\n=====\n{trace}")?;
+    let words = vec![in alloc; "verify".to_string(alloc)?]?;
+    let fails = vec![in alloc; place as u64]?;
+    let mut source = MemSource::new(claim.as_bytes().to_vec(alloc)?, 7, fails);
+    let mut sink = MemSink::new(alloc, 100, Vec::new(alloc))
+        .ok()
+        .ok_or("memory")?;
+    let status = replay(alloc, &words, &mut source, &mut sink, &mut SimBoard::new());
+    Ok((status, sink.bytes().to_vec(alloc)?))
+}
+
+// Wherever the source fails before the first byte that differs, nothing is known of the trace; behind it the trace differs.
+#[test]
+fn a_trace_that_breaks_off(rt: HostRuntime) -> Result<(), Fail> {
+    let alloc = rt.alloc();
+    let script = CONFIGURATION.len() + LINE.len() + 7;
+    let same = format!(in alloc; "{TRACE}end ok 1\n")?;
+    let other = format!(in alloc; "{}!{}", &same[..30], &same[31..])?;
+    for place in 0..=script + same.len() {
+        let (status, text) = verified(alloc, &same, place)?;
+        assert_eq!(rt; status, Status::ReadFault);
+        assert_eq!(rt; text.as_slice(), b"read fault\n".as_slice());
+        let (status, text) = verified(alloc, &other, place)?;
+        if place <= script + 30 {
+            assert_eq!(rt; status, Status::ReadFault);
+            assert_eq!(rt; text.as_slice(), b"read fault\n".as_slice());
+        } else {
+            assert_eq!(rt; status, Status::Differs { line: 3 });
+            assert_eq!(rt; text.as_slice(), b"differs 3\n".as_slice());
+        }
+    }
+    Ok(())
+}
+
 /// Streams that tell nothing and count how often they are called. The source gives its bytes at the first call.
 #[derive(Drop)]
 struct Counted {

@@ -24,6 +24,8 @@ use Rattle.mt_conf.specs.declared.config.ConfigRefusal.{ConfigRefusal}
 use Rattle.mt_conf.specs.Outcome.{outcome as config_of}
 use Rattle.mt_conf.specs.Accepted.{IsAcceptedConfig}
 use Rattle.mt_conf.specs.Laws.{AcceptedIsTaken}
+use Rattle.mt_replay.specs.declared.form.Asked.{Asked}
+use Rattle.mt_replay.specs.declared.form.Asked.TheVariants as asks
 use Rattle.mt_replay.specs.declared.form.Form.TheVariants as forms
 use Rattle.mt_replay.specs.declared.refused.Refused.TheVariants as because
 use Rattle.mt_replay.specs.Input.{Ending, Cut, Job, Parted, job_of}
@@ -31,6 +33,7 @@ use Rattle.mt_replay.specs.Machine.{Machine, Step, step, started}
 use Rattle.mt_replay.specs.Script.{script_from}
 use Rattle.mt_replay.specs.Outcome.{Outcome, played, bad_config, configured, by_job, outcome}
 use Rattle.mt_replay.specs.Detection.{IsCaught, IsUndisturbedPass, AreUndisturbing, counted, IsNotOkBehind, PassesFindFaults}
+use Rattle.mt_replay.specs.Replay.{FindsFaults}
 use Rattle.mt_replay.proofs.Accepted.{small}
 use Rattle.mt_replay.proofs.Fixed.{config_accepted}
 use Rattle.mt_replay.proofs.Taken.{AreTaken, lines-taken}
@@ -107,12 +110,12 @@ whole_pass laws shape z limits all fault p m lines ok sound is u =
     subst (λ (l : List Piece). Contains l p × (ticks r.cells l ≤ ticks r.cells (pass K spans))) (sym first) (is.slice, omega arith) in
     let valid : IsValid K spans start = start-valid K spans caught.accepted.atomic_some (omega (arith, caught.stands.valid.block)) in
     let h : Hunts fault set p r.cells (ticks r.cells (pass K spans)) m = record {
-      present = u.present;
+      present = u.there;
       on = begins_on z r sound.ram;
       pass = record { at = start; pass = record { valid = valid; state = inl u.begins; phase = inr before } };
     } in
     let low = sound.ram.low in
-    let end = lines_pass laws shape z all fault set r.cells (ticks r.cells (pass K spans)) p caught low m lines ok sound h u.undisturbed u.ticks in
+    let end = lines_pass laws shape z all fault set r.cells (ticks r.cells (pass K spans)) p caught low m lines ok sound h u.undisturbed u.whole in
     found shape fault set r.cells p laws.board.pass caught low (played m lines).after.modules.ram end.pass
 
 -- ---- steps
@@ -149,7 +152,7 @@ some_line shape z fault p m [] laws caught low u =
     let one : ticks r.cells (pass K spans) ≡ suc (ticks r.cells (drop (group_len r.cells (pass K spans)) (pass K spans))) =
     subst (λ (l : List Piece). ticks r.cells l ≡ suc (ticks r.cells (drop (group_len r.cells l) l))) (sym first)
     (ticks-group r.cells (piece_at K spans start) _ (subst (AreSmall r.cells) goes.pass (small-from K r.cells spans start low))) in
-    absurd (omega (arith, u.ticks, one))
+    absurd (omega (arith, u.whole, one))
 
 -- ---- a job
 
@@ -197,3 +200,12 @@ passes_find_faults laws accepted defect ending bytes text script c job is short 
       last = ap (λ (l : List Step). slice_get l (length (before ++ lines) - 1)) same ∙ last.is;
       result = ap (λ (y : Machine). slice_get y.modules.ram.results p.place.block) (last.after ∙ played-append m before lines) ∙ result;
     }
+
+pub finds_faults : ((defect : Option Fault) → PassesFindFaults defect) → (asked : Option Asked) (defect : Option Fault) → FindsFaults asked defect
+finds_faults law None defect = tt
+finds_faults law (Some (asks.Job forms.Run)) defect = law defect
+finds_faults law (Some (asks.Job forms.Check)) defect = tt
+finds_faults law (Some (asks.Job forms.Format)) defect = tt
+finds_faults law (Some (asks.Job forms.Migrate)) defect = tt
+finds_faults law (Some (asks.Job (forms.Cut ask))) defect = tt
+finds_faults law (Some asks.Locate) defect = tt

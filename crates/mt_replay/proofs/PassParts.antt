@@ -161,8 +161,8 @@ block_test laws begin h fault set cells left p caught present bad block there o 
     let start : Walks h (IsOn set cells) (λ q failed. AtPart set p z Before L q failed) (started false (scene o.board inside o.log)) =
     with_callee h (IsOn set cells) (InSomePass set p cells left) (λ q. AtPart set p z Before L q false) o inside (λ on. record { same = on.same; many = on.many; results = on.results }) (λ q. first) w in
     let walk = slices-walk laws.memory h of_test (IsOn set cells) (IsSlice set) (λ (l : List Piece) (q : RamTst) (failed : Bool). AtPart set p z Before l q failed)
-        (test_attempts laws.stay h set cells (caught_taken h.shape fault set p caught)) rows (λ y l is. part_passes laws h fault set cells p caught present z Before y l)
-        L (started false (scene o.board inside o.log)) (pieces-of K spans block caught.accepted.atomic_some many) start in
+    (test_attempts laws.stay h set cells (caught_taken h.shape fault set p caught)) rows (λ y l is. part_passes laws h fault set cells p caught present z Before y l)
+    L (started false (scene o.board inside o.log)) (pieces-of K spans block caught.accepted.atomic_some many) start in
     let end = slices of_test L (started false (scene o.board inside o.log)) in
     with_callee h (IsOn set cells) (λ q. AtPart set p z Before [] q end.failed) (InSomePass set p cells left) end.scene (in_state (Suspended x) end.scene.callee)
     (λ on. record { same = on.same; many = on.many; results = on.results }) (λ a. part_back set p cells left z i.valid (held i.phase) end.scene.callee end.failed a) walk

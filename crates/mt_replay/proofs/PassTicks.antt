@@ -225,7 +225,7 @@ running_tick laws h fault set cells left less p caught present bad low more o w 
     } in
     let start : Walks h (IsOn set cells) (λ q failed. AtTick set p rest Before (take n L) q) (started false o) = weakened h (IsOn set cells) (InTick set p cells left) (AtTick set p rest Before (take n L)) o (λ z. first) w in
     let walk = slices-walk laws.memory h of_pass (IsOn set cells) (IsSlice set) At (pass_attempts laws.stay h set cells (caught_taken h.shape fault set p caught)) rows
-        (λ x l is. tick_passes laws h fault set cells p caught present rest Before x l) (take n L) (started false o) (All-take (IsSlice set) n L (from-of K spans i.at caught.accepted.atomic_some)) start in
+    (λ x l is. tick_passes laws h fault set cells p caught present rest Before x l) (take n L) (started false o) (All-take (IsSlice set) n L (from-of K spans i.at caught.accepted.atomic_some)) start in
     let end = (slices of_pass (take n L) (started false o)).scene in
     let done : Stands h (IsOn set cells) (InSomePass set p cells less) end =
     weakened h (IsOn set cells) (AtTick set p rest Before []) (InSomePass set p cells less) end (λ a. behind_group set p cells less rest Before caught.stands caught.accepted.atomic_some fewer end.callee a) walk in

@@ -179,8 +179,8 @@ any-middle {C} {X} laws h r I P Q At k o move w =
     let rows : Rows h r.tests.table I (λ (c : C). At) = record { holds = k.row; row = λ c call p. inr p } in
     let start : Walks h I (λ (c : C) (failed : Bool). At) (entered r o) = with_callee h I P (λ (c : C). At) o (r.inside o.callee) (k.inside o.callee) move w in
     let walk = slices-walk laws h r.tests I Q (λ (L : List X) (c : C) (failed : Bool). At) k.attempts (λ L failed. rows)
-        (λ x more q. record { stopped = λ c failed p e. p; takes = λ may c failed b v holds board p e. p; ends = λ c failed b p e. p })
-        (r.work o.callee) (entered r o) (k.work o.callee w.holds) start in
+    (λ x more q. record { stopped = λ c failed p e. p; takes = λ may c failed b v holds board p e. p; ends = λ c failed b p e. p })
+    (r.work o.callee) (entered r o) (k.work o.callee w.holds) start in
     let z = (ran r o).scene in
     with_callee h I (λ (c : C). At) (λ (c : C). At) z (r.back o.callee z.callee) (k.back o.callee z.callee) (λ p. p) walk
 

@@ -178,7 +178,7 @@ ram-sound laws shape z all m call requests ops h =
     let board : HasBoard hs s.board = record { shape = refl; fault = refl; sound = record { sized = h.words.sized; memory = h.words.memory } } in
     let start : Stands hs (IsOn set r.cells) Anything (scene s.board ((events_of call).cleared r) []) =
     fresh hs (IsOn set r.cells) Anything s.board ((events_of call).cleared r) refl board (subst (λ (y : Shape). All (IsSoundInHandler y) (handled requests)) (sym h.common) (handled_sound shape requests ops))
-        (cleared-on call set r.cells r (begins_on z r h.ram)) tt in
+    (cleared-on call set r.cells r (begins_on z r h.ram)) tt in
     let goes = any-event laws.memory hs (events_of call) (IsOn set r.cells) (IsSlice set) enters s start in
     let same = goes.holds.same in
     let atomic : (set_of (event_of (events_of call) s).after.callee).atomic ≡ set.atomic = ap (λ (y : ParamSet). y.atomic) same in

@@ -86,9 +86,9 @@ ticks_of r = ticks r.cells (pass (set_of r).atomic (spans_of (set_of r).blocks))
 -- and at least as many ticks test something as the pass takes.
 pub record IsUndisturbedPass (fault : Fault) (m : Machine) (lines : List Line) : Type 0 where
   pub begins : m.modules.ram.state ≡ Running start
-  pub present : m.board.fault ≡ Some fault
+  pub there : m.board.fault ≡ Some fault
   pub undisturbed : AreUndisturbing lines (played m lines).steps
-  pub ticks : ticks_of m.modules.ram ≤ counted lines (played m lines).steps
+  pub whole : ticks_of m.modules.ram ≤ counted lines (played m lines).steps
 
 -- ---- a replay
 

@@ -1,5 +1,5 @@
--- The application's memory: what its operations find and leave, with no test, no fault and no module.
-use Rattle.std.specs.Prelude.{ℕ, ◌≡◌, ◌≤◌, List, [], ◌∷◌, map, flat_map, length, All, Option, Some, None, Ok}
+-- The application's memory: what its operations find and leave, with no test, no fault and no module, but for the fills of destructive blocks.
+use Rattle.std.specs.Prelude.{ℕ, ◌+◌, ◌≡◌, ◌≤◌, List, [], ◌∷◌, map, flat_map, length, All, Contains, Option, Some, None, Ok}
 use Rattle.mt_fault.specs.declared.fault.Fault.{Fault}
 use Rattle.mt_port.specs.declared.board.Shape.{Shape}
 use Rattle.mt_port.specs.declared.request.AppOp.{AppOp}
@@ -8,13 +8,17 @@ use Rattle.mt_port.specs.declared.request.HandlerOp.{HandlerOp}
 use Rattle.mt_port.specs.declared.request.HandlerOp.TheVariants.{App, Call}
 use Rattle.mt_port.specs.declared.request.Request.{Request}
 use Rattle.mt_port.specs.Board.{Board, powered_up, op_words, op_answer}
-use Rattle.mt_plan.specs.declared.algorithm.Policy.TheVariants.{NonDestructive}
+use Rattle.mt_plan.specs.declared.algorithm.Policy.TheVariants.{Destructive}
+use Rattle.mt_seq.specs.declared.sequence.Slice.{Slice}
+use Rattle.mt_seq.specs.Laws.{filled}
 use Rattle.mt_window.specs.declared.log.Entry.{Entry}
 use Rattle.mt_window.specs.declared.log.Entry.TheVariants.{Served, Inner, Own}
 use Rattle.mt_window.specs.declared.reply.Reply.{Reply}
 use Rattle.mt_window.specs.Serving.{given}
 use Rattle.mt_blocks.specs.declared.config.ParamSet.{ParamSet}
-use Rattle.mt_blocks.specs.declared.config.Block.{Block}
+use Rattle.mt_blocks.specs.Accepted.{block_at, spans_of}
+use Rattle.mt_blocks.specs.Slices.{Piece, pass}
+use Rattle.mt_ram.specs.State.{set_of}
 use Rattle.mt_text.specs.declared.line.Event.{Event}
 use Rattle.mt_text.specs.declared.line.Event.TheVariants as event
 use Rattle.mt_text.specs.declared.line.Line.{Line}
@@ -33,14 +37,47 @@ use Rattle.mt_replay.specs.Plain.{InjectsNothing}
 abbrev pub plain : Shape → (words flash : List ℕ) → Board
 plain shape words flash = record (powered_up shape 0 None) { words = words; flash = flash }
 
--- the words after operations that are done in order, and their answers
-abbrev pub words_after : Shape → (words flash : List ℕ) → List AppOp → List ℕ
-words_after shape words flash [] = words
-words_after shape words flash (op ∷ more) = words_after shape (op_words (plain shape words flash) op) flash more
+-- What is done to the application's memory: an operation of its own, or the fill of a slice whose sequence has ended.
+pub data Deed : Type 0 where
+  Operates : (op : AppOp) → Deed
+  Fills : (slice : Slice) (word : ℕ) → Deed
 
-abbrev pub answers_of : Shape → (words flash : List ℕ) → List AppOp → List Answer
+abbrev pub words_by_deed : Shape → (words flash : List ℕ) → Deed → List ℕ
+words_by_deed shape words flash (Operates op) = op_words (plain shape words flash) op
+words_by_deed shape words flash (Fills slice word) = filled words slice word
+
+-- the words after deeds that are done in order, and the answers of the operations among them
+abbrev pub words_after : Shape → (words flash : List ℕ) → List Deed → List ℕ
+words_after shape words flash [] = words
+words_after shape words flash (deed ∷ more) = words_after shape (words_by_deed shape words flash deed) flash more
+
+abbrev pub answers_of : Shape → (words flash : List ℕ) → List Deed → List Answer
 answers_of shape words flash [] = []
-answers_of shape words flash (op ∷ more) = op_answer (plain shape words flash) op ∷ answers_of shape (op_words (plain shape words flash) op) flash more
+answers_of shape words flash (Operates op ∷ more) = op_answer (plain shape words flash) op ∷ answers_of shape (words_by_deed shape words flash (Operates op)) flash more
+answers_of shape words flash (Fills slice word ∷ more) = answers_of shape (filled words slice word) flash more
+
+-- the operations among deeds, and how many fills there are
+abbrev pub operations_among : List Deed → List AppOp
+operations_among [] = []
+operations_among (Operates op ∷ more) = op ∷ operations_among more
+operations_among (Fills slice word ∷ more) = operations_among more
+
+abbrev pub fills_among : List Deed → ℕ
+fills_among [] = 0
+fills_among (Operates op ∷ more) = fills_among more
+fills_among (Fills slice word ∷ more) = fills_among more + 1
+
+-- a slice of a destructive block of a set, and the block's fill
+pub record IsFillOf (set : ParamSet) (slice : Slice) (word : ℕ) : Type 0 where
+  pub piece : Piece
+  pub inside : Contains (pass set.atomic (spans_of set.blocks)) piece
+  pub same : piece.slice ≡ slice
+  pub policy : (block_at set.blocks piece.place.block).policy ≡ Destructive
+  pub fill : (block_at set.blocks piece.place.block).fill ≡ word
+
+abbrev pub IsDeedOf : ParamSet → Deed → Type 0
+IsDeedOf set (Operates op) = Unit {0}
+IsDeedOf set (Fills slice word) = IsFillOf set slice word
 
 -- ---- the operations of a line, in the order of its text
 
@@ -85,10 +122,15 @@ replies_of other requests entries = replies_in (handled requests) (inner_replies
 
 -- ---- a replay
 
--- A step answers the application's operations as a plain memory does on which they are done in order, and leaves that memory's words.
+-- A step does the application's operations in order, and between them it fills slices of destructive blocks of the selected set, at most one
+-- for each attempt at a slice. Its answers and the words behind it are those of a plain memory on which this is done.
 pub record IsPlain (m : Machine) (line : Line) (s : Step) : Type 0 where
-  pub answers : replies_of line.event s.requests s.entries ≡ map given (answers_of m.board.shape m.board.words m.board.flash (operations_of line.event s.requests))
-  pub words : s.after.board.words ≡ words_after m.board.shape m.board.words m.board.flash (operations_of line.event s.requests)
+  pub deeds : List Deed
+  pub operations : operations_among deeds ≡ operations_of line.event s.requests
+  pub fills : All (IsDeedOf (set_of m.modules.ram)) deeds
+  pub few : fills_among deeds ≤ length s.attempts
+  pub answers : replies_of line.event s.requests s.entries ≡ map given (answers_of m.board.shape m.board.words m.board.flash deeds)
+  pub words : s.after.board.words ≡ words_after m.board.shape m.board.words m.board.flash deeds
 
 -- so do all steps of some lines, in order
 abbrev pub ArePlain : Machine → List Line → List Step → Type 0
@@ -96,14 +138,9 @@ ArePlain m [] [] = Unit {0}
 ArePlain m (line ∷ lines) (s ∷ steps) = IsPlain m line s × ArePlain s.after lines steps
 ArePlain m lines steps = ⊥
 
--- no block of a set is destructive
-abbrev pub KeepsWords : ParamSet → Type 0
-KeepsWords set = All (λ block. block.policy ≡ NonDestructive) set.blocks
-
--- Where the board has no fault at the start, no line injects one, and no block of the configuration is destructive, the application of a
--- replay finds a plain memory.
+-- Where the board has no fault at the start and no line injects one, the application of a replay finds a plain memory.
 abbrev pub ReplaysArePlain : Option Fault → Type 0
 ReplaysArePlain defect =
     (ending : Ending) (bytes text : List ℕ) (script : Cut) (c : Config) → job_of ending bytes ≡ Parted text script → config_of text ≡ Ok c
-    → length text ≤ 65536 → (started c defect).board.fault ≡ None → All InjectsNothing (script_from c.shape ending 1 script).lines → All KeepsWords c.ram_tst.sets
+    → length text ≤ 65536 → (started c defect).board.fault ≡ None → All InjectsNothing (script_from c.shape ending 1 script).lines
     → ArePlain (started c defect) (script_from c.shape ending 1 script).lines (outcome forms.Run ending defect bytes).steps

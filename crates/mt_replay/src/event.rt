@@ -1,6 +1,6 @@
 //! What one line does.
 
-ghost use Rattle.std.specs.Prelude.{◌≡◌, [], ◌∷◌, None, false};
+ghost use Rattle.std.specs.Prelude.{◌≡◌, [], ◌∷◌, false};
 ghost use Rattle.mt_port.specs.Board.{AreSoundRequests, Logs};
 ghost use Rattle.mt_port.specs.declared.request.Module.TheVariants.{RamTst, FlsTst};
 ghost use Rattle.mt_text.specs.Accepted.{AreFor, IsAccepted as IsAcceptedLine};
@@ -8,10 +8,8 @@ ghost use Rattle.mt_text.specs.Lines.{running_module};
 ghost use Rattle.mt_fault.specs.Placement.{IsWellPlaced};
 ghost use Rattle.mt_window.specs.Serving.{given, scene, IsReady as IsReadyToServe};
 ghost use Rattle.mt_window.specs.Events.{event as event_of, event_touches};
-ghost use Rattle.mt_ram.specs.Table.{reply_to, after};
-ghost use Rattle.mt_fls.specs.Table as fls_table;
-ghost use Rattle.mt_replay.specs.Machine.{machine, IsReady, events_of, running_call, service_of, by_ram, running_ram, fls_events_of, fls_running_call, fls_service_of, by_fls, running_fls};
-ghost use Rattle.mt_replay.specs.Inner.Events.{AnswerGives, AreReady, Does, Injects};
+ghost use Rattle.mt_replay.specs.Machine.{machine, IsReady, events_of, by_ram, running_ram, fls_events_of, by_fls, running_fls};
+ghost use Rattle.mt_replay.specs.Inner.Events.{AnswerGives, AreReady, Does, Injects, RamCalled, FlsCalled};
 
 use crate::modules::Modules;
 use arrayvec::ArrayVec;
@@ -36,6 +34,13 @@ pub enum Running {
 pub enum FlsRunning {
     Tick,
     Foreground(u32),
+}
+
+/// What comes of a call of a module: a reply at once, or a call that runs tests.
+#[derive(Clone, Copy, Debug, PartialEq, Eq)]
+pub enum Called<R> {
+    Replied(Reply),
+    Runs(R),
 }
 
 // The requests of a line, which a running event takes.
@@ -150,74 +155,53 @@ fn run_fls<B: Bench>(
     reply
 }
 
-// The running call that a call is, if it is one.
-fn running_of(call: RamCall) -> Option<Running>
-    ensures { result ≡ running_call call }
-{
-    match call {
-        RamCall::RunFullTest => Some(Running::Full),
-        RamCall::RunPartialTest(block) => Some(Running::Partial(block)),
-        _ => None,
-    }
-}
-
-fn fls_running_of(call: FlsCall) -> Option<FlsRunning>
-    ensures { result ≡ fls_running_call call }
-{
-    match call {
-        FlsCall::StartFgnd(block) => Some(FlsRunning::Foreground(block)),
-        _ => None,
-    }
-}
-
-// A service of RamTst that is answered at once.
+// A call of RamTst: it is answered at once, or it is one that runs tests.
 #[tactic(auto, using(crate::proofs::Services::stays_result, crate::proofs::Services::stays_per_block, crate::proofs::Services::stays_params, crate::proofs::Services::stays_algorithm, crate::proofs::Services::stays_cells))]
-fn serve(ram: &mut Ram, call: RamCall) -> Reply
-    requires { running_call call ≡ None }
-    ensures reply { result ≡ reply_to ram.old (service_of call) }
-    ensures next { ram.new ≡ after ram.old (service_of call) }
-    ensures setting { ram.new.setting ≡ ram.old.setting }
+fn take_call(ram: &mut Ram, call: RamCall) -> Called<Running>
+    ensures { RamCalled result call ram.old ram.new }
 {
     match call {
-        RamCall::Init => ram.init(),
-        RamCall::DeInit => ram.de_init(),
-        RamCall::Stop => ram.stop(),
-        RamCall::Allow => ram.allow(),
-        RamCall::Suspend => ram.suspend(),
-        RamCall::Resume => ram.resume(),
-        RamCall::GetExecutionStatus => ram.get_execution_status(),
-        RamCall::GetTestResult => ram.get_test_result(),
-        RamCall::GetTestResultPerBlock(block) => ram.get_test_result_per_block(block),
-        RamCall::GetAlgParams => ram.get_alg_params(),
-        RamCall::GetTestAlgorithm => ram.get_test_algorithm(),
-        RamCall::GetNumberOfTestedCells => ram.get_number_of_tested_cells(),
-        RamCall::SelectAlgParams(set) => ram.select_alg_params(set),
-        RamCall::ChangeNumberOfTestedCells(cells) => ram.change_number_of_tested_cells(cells),
-        RamCall::GetVersionInfo => ram.get_version_info(),
-        RamCall::RunFullTest | RamCall::RunPartialTest(_) => unreachable!(),
+        RamCall::Init => Called::Replied(ram.init()),
+        RamCall::DeInit => Called::Replied(ram.de_init()),
+        RamCall::Stop => Called::Replied(ram.stop()),
+        RamCall::Allow => Called::Replied(ram.allow()),
+        RamCall::Suspend => Called::Replied(ram.suspend()),
+        RamCall::Resume => Called::Replied(ram.resume()),
+        RamCall::GetExecutionStatus => Called::Replied(ram.get_execution_status()),
+        RamCall::GetTestResult => Called::Replied(ram.get_test_result()),
+        RamCall::GetTestResultPerBlock(block) => {
+            Called::Replied(ram.get_test_result_per_block(block))
+        }
+        RamCall::GetAlgParams => Called::Replied(ram.get_alg_params()),
+        RamCall::GetTestAlgorithm => Called::Replied(ram.get_test_algorithm()),
+        RamCall::GetNumberOfTestedCells => Called::Replied(ram.get_number_of_tested_cells()),
+        RamCall::SelectAlgParams(set) => Called::Replied(ram.select_alg_params(set)),
+        RamCall::ChangeNumberOfTestedCells(cells) => {
+            Called::Replied(ram.change_number_of_tested_cells(cells))
+        }
+        RamCall::GetVersionInfo => Called::Replied(ram.get_version_info()),
+        RamCall::RunFullTest => Called::Runs(Running::Full),
+        RamCall::RunPartialTest(block) => Called::Runs(Running::Partial(block)),
     }
 }
 
-// A service of FlsTst that is answered at once.
+// A call of FlsTst: it is answered at once, or it is one that runs tests.
 #[tactic(auto, using(crate::proofs::Services::stays_bgnd, crate::proofs::Services::stays_fgnd, crate::proofs::Services::stays_details))]
-fn serve_fls(fls: &mut Fls, call: FlsCall) -> Reply
-    requires { fls_running_call call ≡ None }
-    ensures reply { result ≡ fls_table.reply_to fls.old (fls_service_of call) }
-    ensures next { fls.new ≡ fls_table.after fls.old (fls_service_of call) }
-    ensures setting { fls.new.setting ≡ fls.old.setting }
+fn take_fls_call(fls: &mut Fls, call: FlsCall) -> Called<FlsRunning>
+    ensures { FlsCalled result call fls.old fls.new }
 {
     match call {
-        FlsCall::Init => fls.init(),
-        FlsCall::DeInit => fls.de_init(),
-        FlsCall::Abort => fls.abort(),
-        FlsCall::Suspend => fls.suspend(),
-        FlsCall::Resume => fls.resume(),
-        FlsCall::GetCurrentState => fls.get_current_state(),
-        FlsCall::GetTestResultBgnd => fls.get_test_result_bgnd(),
-        FlsCall::GetTestResultFgnd => fls.get_test_result_fgnd(),
-        FlsCall::GetErrorDetails => fls.get_error_details(),
-        FlsCall::GetVersionInfo => fls.get_version_info(),
-        FlsCall::StartFgnd(_) => unreachable!(),
+        FlsCall::Init => Called::Replied(fls.init()),
+        FlsCall::DeInit => Called::Replied(fls.de_init()),
+        FlsCall::Abort => Called::Replied(fls.abort()),
+        FlsCall::Suspend => Called::Replied(fls.suspend()),
+        FlsCall::Resume => Called::Replied(fls.resume()),
+        FlsCall::GetCurrentState => Called::Replied(fls.get_current_state()),
+        FlsCall::GetTestResultBgnd => Called::Replied(fls.get_test_result_bgnd()),
+        FlsCall::GetTestResultFgnd => Called::Replied(fls.get_test_result_fgnd()),
+        FlsCall::GetErrorDetails => Called::Replied(fls.get_error_details()),
+        FlsCall::GetVersionInfo => Called::Replied(fls.get_version_info()),
+        FlsCall::StartFgnd(block) => Called::Runs(FlsRunning::Foreground(block)),
     }
 }
 
@@ -237,9 +221,9 @@ fn call_ram<B: Bench>(
         (machine (B.state board.new) modules.new) result log.new (B.tape board.old) (B.tape board.new) }
     ensures ready { IsReady (B.state board.old).shape (machine (B.state board.new) modules.new) }
 {
-    match running_of(call) {
-        Some(running) => run(modules, board, running, line, log),
-        None => serve(&mut modules.ram, call),
+    match take_call(&mut modules.ram, call) {
+        Called::Replied(reply) => reply,
+        Called::Runs(running) => run(modules, board, running, line, log),
     }
 }
 
@@ -259,9 +243,9 @@ fn call_fls<B: Bench>(
         (machine (B.state board.new) modules.new) result log.new (B.tape board.old) (B.tape board.new) }
     ensures ready { IsReady (B.state board.old).shape (machine (B.state board.new) modules.new) }
 {
-    match fls_running_of(call) {
-        Some(running) => run_fls(modules, board, running, line, log),
-        None => serve_fls(&mut modules.fls, call),
+    match take_fls_call(&mut modules.fls, call) {
+        Called::Replied(reply) => reply,
+        Called::Runs(running) => run_fls(modules, board, running, line, log),
     }
 }
 

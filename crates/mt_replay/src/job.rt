@@ -277,9 +277,11 @@ fn take_lines<S: Source, K: Sink, B: Bench>(
         (B.tape board.new) }
     ensures gives { (a : Option (List ℕ)) (h : Option (List ℕ)) (was : Option (List Touch))
         (defect : Option MemoryFault) (before : Board) (c : Config) → IsTask task.now.form c task.now
-        → IsBegun task.now.form c defect (machine (B.state board.old) modules.old) before (outputs h (K.held sink.old) was (B.tape board.old))
+        → IsBegun task.now.form c defect (machine (B.state board.old) modules.old) before
+        (outputs h (K.held sink.old) was (B.tape board.old))
         → WhereTold a (prepend_known input.old (S.left source.old)) (Begins c)
-        → JobGives result (outcomes task.now.form defect) before (B.state board.new) (S.faults source.old) (S.faults source.new)
+        → JobGives result (outcomes task.now.form defect) before (B.state board.new)
+        (S.faults source.old) (S.faults source.new)
         (change a (S.left source.new) h (K.held sink.new) was (B.tape board.new)) }
     ensures cause { StatusCaused result (S.faults source.old) (S.faults source.new) (K.faults sink.old)
         (K.faults sink.new) }
@@ -304,7 +306,8 @@ fn replay_config<S: Source, K: Sink, B: Bench>(
     requires { IsAcceptedConfig config }
     ensures gives { (a : Option (List ℕ)) → WhereTold a (prepend_known input.old (S.left source.old))
         (FoundGives (Found.Config config follows))
-        → JobGives result (outcomes form (B.state board.old).defect) (B.state board.old) (B.state board.new) (S.faults source.old) (S.faults source.new)
+        → JobGives result (outcomes form (B.state board.old).defect) (B.state board.old) (B.state board.new)
+        (S.faults source.old) (S.faults source.new)
         (change a (S.left source.new) (K.held sink.old) (K.held sink.new) (B.tape board.old) (B.tape board.new)) }
     ensures cause { StatusCaused result (S.faults source.old) (S.faults source.new) (K.faults sink.old)
         (K.faults sink.new) }
@@ -333,7 +336,8 @@ pub fn replay_job<S: Source, K: Sink, B: Bench>(
 ) -> Status
     ensures gives { JobGives result (outcomes form (B.state board.old).defect) (B.state board.old) (B.state board.new)
         (S.faults source.old) (S.faults source.new)
-        (change (S.left source.old) (S.left source.new) (K.held sink.old) (K.held sink.new) (B.tape board.old) (B.tape board.new)) }
+        (change (S.left source.old) (S.left source.new)
+        (K.held sink.old) (K.held sink.new) (B.tape board.old) (B.tape board.new)) }
     ensures cause { StatusCaused result (S.faults source.old) (S.faults source.new) (K.faults sink.old)
         (K.faults sink.new) }
     ensures board { UsesBoard form (B.state board.old) (B.state board.new) (B.tape board.old) (B.tape board.new) }

@@ -248,7 +248,8 @@ pub(crate) fn read_located<S: Source>(
     requires sets { All (IsAcceptedSet shape) sets.now }
     requires empty { misses.old.items ≡ [] }
     ensures gives { WhereTold (prepend_known input.old (S.left source.old))
-        (prepend_known input.new (S.left source.new)) (LocatedGives result (located shape initial sets.now) misses.new.items) }
+        (prepend_known input.new (S.left source.new))
+        (LocatedGives result (located shape initial sets.now) misses.new.items) }
     ensures accepted { IfOk result IsAcceptedProbe }
     ensures width { IfOk result (λ p. p.width ≡ shape.width) }
     ensures inside { IfOk result (λ p. p.first + p.n ≤ shape.ram) }

@@ -19,7 +19,7 @@ use arrayvec::ArrayVec;
 use mt_fls::running_calls_keep_the_board as fls_keeps_the_board;
 use mt_port::{Bench, Failed, Shape, Sink, Source, put};
 use mt_ram::running_calls_keep_the_board as ram_keeps_the_board;
-use mt_text::{Line, LineText as CanonicalText, push_line, write_entry};
+use mt_text::{Line, LineText as CanonicalText, entry_text, push_line};
 use mt_window::{Entry, EventLog, Reply};
 use mt_word::Width;
 
@@ -39,12 +39,16 @@ pub enum Turn {
     Ended(End),
 }
 
+/// The trace of one script line: at most 257 entries of at most 64 bytes.
+type Page = ArrayVec<u8, 16_448>;
+
 /// Room for what is read and made of a line. It is made once a job, and each line finds it as the line before left it.
 #[derive(Drop)]
 pub(crate) struct Desk {
     text: LineText,
     line: Line,
     log: EventLog,
+    page: Page,
     canonical: CanonicalText,
 }
 
@@ -54,36 +58,41 @@ impl Desk {
             text: ArrayVec::new(),
             line: Line::new(),
             log: EventLog::new(),
+            page: ArrayVec::new(),
             canonical: ArrayVec::new(),
         }
     }
 }
 
-// Writes the trace lines of some entries.
-fn write_entries<K: Sink>(
-    sink: &mut K,
-    entries: &[Entry],
-    width: Width,
-    number: u32,
-) -> Result<(), Failed>
-    ensures ok { OnOk result (Appends (K.held sink.old) (K.held sink.new) (entries_text width number entries.now)) }
-    ensures err { OnErr result (AppendsFront (K.held sink.old) (K.held sink.new)
-        (entries_text width number entries.now)) }
-    ensures cause { HasCause (K.faults sink.old) (K.faults sink.new) result }
+// Appends a text where there is room.
+fn push_text(page: &mut Page, text: &[u8])
+    requires { length page.old.items + length text.now ≤ 16448 }
+    ensures { page.new.items ≡ page.old.items ++ text.now }
 {
-    for entry in entries {
-        match write_entry(number, entry, width, sink) {
-            Ok(()) => {}
-            Err(failed) => return Err(failed),
-        }
+    match page.try_extend_from_slice(text) {
+        Ok(()) => {}
+        // There is room.
+        Err(_) => unreachable!(),
     }
-    Ok(())
 }
 
-// Writes what was entered in the log, and then the line's own reply.
+// Makes the trace lines of some entries, on an empty page.
+fn push_entries(page: &mut Page, entries: &[Entry], width: Width, number: u32)
+    requires empty { page.old.items ≡ [] }
+    requires few { length entries.now ≤ 256 }
+    ensures text { page.new.items ≡ entries_text width number entries.now }
+    ensures short { length page.new.items ≤ 16384 }
+{
+    for entry in entries {
+        push_text(page, &entry_text(number, entry, width));
+    }
+}
+
+// Writes what was entered in the log, and then the line's own reply, in one piece.
 fn write_answer<K: Sink>(
     sink: &mut K,
-    log: &[Entry],
+    page: &mut Page,
+    log: &EventLog,
     reply: Reply,
     width: Width,
     number: u32,
@@ -94,10 +103,10 @@ fn write_answer<K: Sink>(
         (entries_text width number (log.now ++ Entry.Own reply ∷ []))) }
     ensures cause { HasCause (K.faults sink.old) (K.faults sink.new) result }
 {
-    match write_entries(sink, log, width, number) {
-        Ok(()) => write_entry(number, &Entry::Own(reply), width, sink),
-        Err(failed) => Err(failed),
-    }
+    page.clear();
+    push_entries(page, log.entries(), width, number);
+    push_text(page, &entry_text(number, &Entry::Own(reply), width));
+    put(sink, page)
 }
 
 // Does what an accepted line asks for, and writes its entries.
@@ -125,7 +134,10 @@ fn play_line<K: Sink, B: Bench>(
     desk.log.clear();
     match perform(modules, board, &mut desk.line, &mut desk.log) {
         None => Ok(()),
-        Some(reply) => write_answer(sink, desk.log.entries(), reply, shape.width, number),
+        Some(reply) => {
+            let Desk { page, log, .. } = desk;
+            write_answer(sink, page, log, reply, shape.width, number)
+        }
     }
 }
 
@@ -187,7 +199,8 @@ fn judge_line<K: Sink, B: Bench>(
         (B.tape board.new) }
     ensures gives { LineGives result (place task.now.form task.now.shape number)
         (judged task.now.shape number desk.old.text.items) (machine (B.state board.old) modules.old)
-        (machine (B.state board.new) modules.new) (outputs (K.held sink.old) (K.held sink.new) (B.tape board.old) (B.tape board.new)) }
+        (machine (B.state board.new) modules.new) (outputs
+        (K.held sink.old) (K.held sink.new) (B.tape board.old) (B.tape board.new)) }
     ensures cause { HasCause (K.faults sink.old) (K.faults sink.new) result }
 {
     match desk.line.read(&desk.text, task.shape) {
@@ -219,7 +232,8 @@ fn last_line<K: Sink, B: Bench>(
         (B.tape board.new) }
     ensures gives { LastGives result (place task.now.form task.now.shape number)
         (judged task.now.shape number desk.old.text.items) (machine (B.state board.old) modules.old)
-        (machine (B.state board.new) modules.new) (outputs (K.held sink.old) (K.held sink.new) (B.tape board.old) (B.tape board.new)) }
+        (machine (B.state board.new) modules.new) (outputs
+        (K.held sink.old) (K.held sink.new) (B.tape board.old) (B.tape board.new)) }
     ensures cause { HasCause (K.faults sink.old) (K.faults sink.new) result }
 {
     match judge_line(task, modules, board, sink, desk, number) {
@@ -248,7 +262,9 @@ fn run_line<S: Source, K: Sink, B: Bench>(
         (B.tape board.new) }
     ensures gives { TurnGives result (place task.now.form task.now.shape number)
         (machine (B.state board.old) modules.old) (machine (B.state board.new) modules.new)
-        (change (prepend_known input.old (S.left source.old)) (prepend_known input.new (S.left source.new)) (K.held sink.old) (K.held sink.new) (B.tape board.old) (B.tape board.new)) }
+        (change (prepend_known input.old (S.left source.old))
+        (prepend_known input.new (S.left source.new))
+        (K.held sink.old) (K.held sink.new) (B.tape board.old) (B.tape board.new)) }
     ensures none { result ≡ Ok (Turn.Ended End.Broken) → input.new ≡ [] }
     ensures cause { TurnCaused result (S.faults source.old) (S.faults source.new) (K.faults sink.old)
         (K.faults sink.new) }
@@ -303,7 +319,9 @@ pub fn run_script<S: Source, K: Sink, B: Bench>(
         (B.tape board.new) }
     ensures gives { ScriptGives result (place task.now.form task.now.shape 1)
         (machine (B.state board.old) modules.old) (machine (B.state board.new) modules.new)
-        (change (prepend_known input.old (S.left source.old)) (prepend_known input.new (S.left source.new)) (K.held sink.old) (K.held sink.new) (B.tape board.old) (B.tape board.new)) }
+        (change (prepend_known input.old (S.left source.old))
+        (prepend_known input.new (S.left source.new))
+        (K.held sink.old) (K.held sink.new) (B.tape board.old) (B.tape board.new)) }
     ensures none { result ≡ Ok End.Broken → input.new ≡ [] }
     ensures cause { ScriptCaused result (S.faults source.old) (S.faults source.new) (K.faults sink.old)
         (K.faults sink.new) }

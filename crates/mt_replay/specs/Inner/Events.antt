@@ -12,7 +12,17 @@ use Rattle.mt_window.specs.declared.reply.Reply.{Reply}
 use Rattle.mt_window.specs.declared.reply.Reply.TheVariants as replies
 use Rattle.mt_window.specs.declared.log.Entry.{Entry}
 use Rattle.mt_window.specs.declared.log.Entry.TheVariants.{Own}
-use Rattle.mt_replay.specs.Machine.{Machine, Step, step}
+use Rattle.mt_text.specs.declared.line.RamCall.{RamCall}
+use Rattle.mt_text.specs.declared.line.FlsCall.{FlsCall}
+use Rattle.mt_ram.specs.State.{RamTst}
+use Rattle.mt_ram.specs.Table as ram_table
+use Rattle.mt_fls.specs.State.{FlsTst}
+use Rattle.mt_fls.specs.Table as fls_table
+use Rattle.mt_replay.specs.declared.event.Running.{Running}
+use Rattle.mt_replay.specs.declared.event.FlsRunning.{FlsRunning}
+use Rattle.mt_replay.specs.declared.event.Called.{Called}
+use Rattle.mt_replay.specs.declared.event.Called.TheVariants as called
+use Rattle.mt_replay.specs.Machine.{Machine, Step, step, running_call, service_of, fls_running_call, fls_service_of}
 
 -- The line is answered with these entries, and these accesses are made.
 pub record Steps (m m' : Machine) (line : Line) (entries' : List Entry) (tape tape' : Option (List Touch)) : Type 0 where
@@ -35,6 +45,15 @@ pub record Does (step : Step) (m' : Machine) (answer : Reply) (log : List Entry)
   pub after : step.after ≡ m'
   pub entries : step.entries ≡ log ++ Own answer ∷ []
   pub taped : Logs tape tape' step.touches
+
+-- A call is answered at once as its row says, or it is one that runs tests, and nothing was done yet.
+abbrev pub RamCalled : Called Running → RamCall → (old new : RamTst) → Type 0
+RamCalled (called.Replied reply) c old new = (running_call c ≡ None) × (reply ≡ ram_table.reply_to old (service_of c)) × (new ≡ ram_table.after old (service_of c)) × (new.setting ≡ old.setting)
+RamCalled (called.Runs running) c old new = (running_call c ≡ Some running) × (new ≡ old)
+
+abbrev pub FlsCalled : Called FlsRunning → FlsCall → (old new : FlsTst) → Type 0
+FlsCalled (called.Replied reply) c old new = (fls_running_call c ≡ None) × (reply ≡ fls_table.reply_to old (fls_service_of c)) × (new ≡ fls_table.after old (fls_service_of c)) × (new.setting ≡ old.setting)
+FlsCalled (called.Runs running) c old new = (fls_running_call c ≡ Some running) × (new ≡ old)
 
 -- requests of an event of this kind of module
 pub record AreReady (kind : Module) (shape : Shape) (requests : List Request) : Type 0 where

@@ -1,0 +1,19 @@
+use Rattle.std.proofs.Common.{ℕ, ◌≡◌, ◌≤◌, ◌+◌, ◌*◌, ◌++◌, ◌∷◌, [], ◌∙◌, List, length, length-append, take, ap, sym, subst, arith}
+use Rattle.mt_replay.proofs.Texts.{entries_text-nil, entries_text-more}
+use Rattle.mt_replay.proofs.run.push_entries.Goals as goal
+
+pub loop-entry-init : goal.loop-entry-init
+loop-entry-init c = record {
+  text = c.requires.empty ∙ sym (entries_text-nil c.args.width c.args.number);
+  short = let none = ap (λ (l : List ℕ). length l) c.requires.empty in omega (arith, none);
+}
+
+pub loop-entry-preserved : goal.loop-entry-preserved
+loop-entry-preserved c =
+    let all = c.args.entries.now in
+    let k = c.loop-entry.entry-index in
+    let long = ap (λ (l : List ℕ). length l) c.push_text.ensures ∙ length-append c.loop-entry.page.items c.deref.result.now in
+    record {
+      text = c.push_text.ensures ∙ entries_text-more c.args.width c.args.number all k _ c.loop-entry.page.items c.deref.result.now c.loop-entry-test.true c.loop-entry.invariant.text (c.deref.ensures.0 ∙ c.entry_text.ensures);
+      short = omega (arith, long, c.loop-entry.invariant.short, c.deref.ensures.1);
+    }
