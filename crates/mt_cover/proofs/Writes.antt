@@ -1,5 +1,5 @@
 -- What an attempt writes fits the words, so that it leaves the RAM sound.
-use Rattle.std.proofs.Common.{ℕ, zero, suc, ◌+◌, ◌^◌, ◌<◌, ◌≤◌, ◌≡◌, Bool, true, false, cond, List, [], ◌∷◌, ◌++◌, length, get_or, map, take, All, Option, Some, None, sym, subst, ◌∙◌, append-nil, arith}
+use Rattle.std.proofs.Common.{ℕ, zero, suc, ◌+◌, ◌^◌, ◌<◌, ◌≤◌, ◌≡◌, Bool, true, false, cond, List, [], ◌∷◌, ◌++◌, length, get_or, take, All, Option, Some, None, sym, subst, ◌∙◌, append-nil, arith}
 use Rattle.std.specs.Prelude.{slice_index, nat_lt}
 use Rattle.std.proofs.lemmas.List.Elements.{All-head, All-tail, All-nil, All-map, All-append, All-take}
 use Rattle.mt_word.specs.declared.Width.{Width}
@@ -22,7 +22,7 @@ use Rattle.mt_plan.specs.Plan.{steps_of}
 use Rattle.mt_port.specs.Board.{Board, memory_of}
 use Rattle.mt_seq.specs.declared.sequence.Job.{Job}
 use Rattle.mt_seq.specs.declared.sequence.Slice.{Slice}
-use Rattle.mt_seq.specs.Sequence.{is_transparent, back_of, last_of, saving, saved_words, testing, ending, accesses_of, sequence, IsSoundJob, IsSoundSlice}
+use Rattle.mt_seq.specs.Sequence.{is_transparent, back_of, last_of, saving, saved_words, testing, ending, accesses_of, sequence, IsSoundJob}
 use Rattle.mt_seq.specs.Attempts.{attempt, attempt_to, attempt_words, dropped_at}
 use Rattle.mt_cover.specs.Detection.{HasSoundWords, AttemptsStaySound}
 use Rattle.mt_cover.proofs.Detection.{AnswersFit, cells_below}

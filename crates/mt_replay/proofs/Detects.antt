@@ -1,13 +1,11 @@
 -- An undisturbed pass over a caught fault makes the block of its slice NOT_OK.
-use Rattle.std.proofs.Common.{ℕ, zero, suc, ◌≡◌, ◌<◌, ◌≤◌, ◌+◌, ◌-◌, Bool, true, false, cond, List, [], ◌∷◌, ◌++◌, drop, length, All, Contains, Option, Some, None, Result, Ok, refl, sym, ap, ◌∙◌, subst, arith, inl, inr}
+use Rattle.std.proofs.Common.{ℕ, suc, ◌≡◌, ◌<◌, ◌≤◌, ◌+◌, ◌-◌, Bool, cond, List, [], ◌∷◌, ◌++◌, drop, length, All, Contains, Option, Some, None, Result, refl, sym, ap, ◌∙◌, subst, arith, inl, inr}
 use Rattle.std.specs.Prelude.{◌⊎◌, slice_get}
-use Rattle.std.proofs.lemmas.List.{length-map}
 use Rattle.std.proofs.lemmas.List.Elements.{All-nil, All-cons, All-head, All-tail, All-contains}
 use Rattle.mt_fault.specs.declared.fault.Fault.{Fault}
 use Rattle.mt_port.specs.declared.board.Shape.{Shape}
-use Rattle.mt_port.specs.declared.request.Request.{Request}
-use Rattle.mt_port.specs.Board.{IsWithinLimits, IsSoundInHandler}
-use Rattle.mt_window.specs.declared.reply.TestResult.TheVariants.{NotTested, NotOk}
+use Rattle.mt_port.specs.Board.{IsWithinLimits}
+use Rattle.mt_window.specs.declared.reply.TestResult.TheVariants.{NotOk}
 use Rattle.mt_blocks.specs.declared.config.ParamSet.{ParamSet}
 use Rattle.mt_blocks.specs.Slices.{Piece, pass, from_place, piece_at, start, IsValid}
 use Rattle.mt_blocks.specs.Groups.{ticks, group_len}
@@ -22,27 +20,26 @@ use Rattle.mt_text.specs.Accepted.{IsAccepted}
 use Rattle.mt_conf.specs.declared.config.Config.{Config}
 use Rattle.mt_conf.specs.declared.config.ConfigRefusal.{ConfigRefusal}
 use Rattle.mt_conf.specs.Outcome.{outcome as config_of}
-use Rattle.mt_conf.specs.Accepted.{IsAcceptedConfig}
 use Rattle.mt_conf.specs.Laws.{AcceptedIsTaken}
 use Rattle.mt_replay.specs.declared.form.Asked.{Asked}
 use Rattle.mt_replay.specs.declared.form.Asked.TheVariants as asks
 use Rattle.mt_replay.specs.declared.form.Form.TheVariants as forms
 use Rattle.mt_replay.specs.declared.refused.Refused.TheVariants as because
-use Rattle.mt_replay.specs.Input.{Ending, Cut, Job, Parted, job_of}
+use Rattle.mt_replay.specs.Input.{Cut, Job}
 use Rattle.mt_replay.specs.Machine.{Machine, Step, step, started}
 use Rattle.mt_replay.specs.Script.{script_from}
 use Rattle.mt_replay.specs.Outcome.{Outcome, played, bad_config, configured, by_job, outcome}
-use Rattle.mt_replay.specs.Detection.{IsCaught, IsUndisturbedPass, AreUndisturbing, counted, IsNotOkBehind, PassesFindFaults}
+use Rattle.mt_replay.specs.Detection.{IsCaught, IsUndisturbedPass, AreUndisturbing, counted, PassesFindFaults}
 use Rattle.mt_replay.specs.Replay.{FindsFaults}
 use Rattle.mt_replay.proofs.Accepted.{small}
 use Rattle.mt_replay.proofs.Fixed.{config_accepted}
 use Rattle.mt_replay.proofs.Taken.{AreTaken, lines-taken}
 use Rattle.mt_replay.proofs.Pieces.{IsOf, pass-of, start-valid, small-from, ticks-group}
 use Rattle.mt_replay.proofs.Phases.{IsBehind}
-use Rattle.mt_replay.proofs.PassRows.{IsOn, InPass, InSomePass}
+use Rattle.mt_replay.proofs.PassRows.{InSomePass}
 use Rattle.mt_replay.proofs.PassEvents.{IsTaken, Caught}
 use Rattle.mt_replay.proofs.PassTicks.{PassLaws}
-use Rattle.mt_replay.proofs.SetsStay.{IsSet, set_taken, set_low}
+use Rattle.mt_replay.proofs.SetsStay.{set_taken}
 use Rattle.mt_replay.proofs.SoundBoards.{BoardLaws, AreSoundIn, IsSoundMachine, begins_on, started_sound, step-sound, played-sound}
 use Rattle.mt_replay.proofs.PassLines.{Hunts, Hunt}
 use Rattle.mt_replay.proofs.PassSteps.{step_pass}

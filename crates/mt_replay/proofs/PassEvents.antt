@@ -1,5 +1,5 @@
 -- What running calls of RamTst keep: its set, and the soundness of the RAM.
-use Rattle.std.proofs.Common.{ℕ, ◌≡◌, ◌<◌, ◌≤◌, Bool, true, false, cond, List, [], ◌∷◌, length, take, All, Option, Some, None, refl, sym, ap, ◌∙◌, subst, arith}
+use Rattle.std.proofs.Common.{ℕ, ◌≡◌, ◌<◌, ◌≤◌, Bool, true, false, cond, List, length, All, Some, None, refl, sym, ◌∙◌, subst, arith}
 use Rattle.std.specs.Prelude.{nat_lt}
 use Rattle.std.proofs.lemmas.Bool.Decides.{nat_tests}
 use Rattle.std.proofs.lemmas.List.{length-set, length-map}
@@ -17,15 +17,13 @@ use Rattle.mt_cover.specs.Detection.{HasSoundWords, AttemptsDetect, AttemptsStay
 use Rattle.mt_window.specs.declared.reply.Refusal.TheVariants.{Range}
 use Rattle.mt_window.specs.Rows.{Refuses, Runs, work_in, inside_of, back_from}
 use Rattle.mt_blocks.specs.declared.config.ParamSet.{ParamSet}
-use Rattle.mt_blocks.specs.declared.pass.Position.{Position}
-use Rattle.mt_blocks.specs.declared.span.Span.{Span}
 use Rattle.mt_blocks.specs.Slices.{Piece, from_place, pieces, span_at}
 use Rattle.mt_blocks.specs.Groups.{group_len}
-use Rattle.mt_blocks.specs.Accepted.{spans_of, IsAcceptedSet, no_set, set_at}
+use Rattle.mt_blocks.specs.Accepted.{spans_of, IsAcceptedSet}
 use Rattle.mt_ram.specs.declared.state.State.{State}
 use Rattle.mt_ram.specs.declared.state.State.TheVariants.{Uninit, Stopped, Running, Suspended, Full, Partial}
 use Rattle.mt_ram.specs.State.{RamTst, set_of, spans_in}
-use Rattle.mt_ram.specs.Table.{RamCell, MainFunction, RunFullTest, RunPartialTest, cell, testing, in_state, ram_table}
+use Rattle.mt_ram.specs.Table.{RamCell, MainFunction, RunFullTest, RunPartialTest, cell, testing, in_state}
 use Rattle.mt_ram.specs.Event.{job_in, job_of, of_pass, of_test, ticking, full_test, partial_test}
 use Rattle.mt_ram.proofs.Sets.{sound_job, block_there}
 use Rattle.mt_replay.proofs.Pieces.{IsOf, sound_slice, from-of, pass-of, pieces-of}

@@ -1,6 +1,6 @@
 -- Lines that leave a pass over a caught fault undisturbed.
-use Rattle.std.proofs.Common.{ℕ, suc, ◌≡◌, ◌≢◌, ◌≤◌, ◌+◌, Bool, true, false, cond, List, [], ◌∷◌, ◌++◌, length, zip, All, Contains, Option, Some, None, refl, sym, ap, ◌∙◌, subst, arith, inl, inr, append-nil}
-use Rattle.std.specs.Prelude.{◌⊎◌, is_some, nat_lt}
+use Rattle.std.proofs.Common.{ℕ, ◌≡◌, ◌≤◌, ◌+◌, Bool, true, false, cond, List, [], ◌∷◌, ◌++◌, zip, Contains, Some, refl, sym, ap, ◌∙◌, subst, arith, inl, inr, append-nil}
+use Rattle.std.specs.Prelude.{◌⊎◌, nat_lt}
 use Rattle.mt_fault.specs.declared.fault.Fault.{Fault}
 use Rattle.mt_port.specs.declared.board.Shape.{Shape}
 use Rattle.mt_port.specs.declared.request.HandlerCall.{HandlerCall}
@@ -8,33 +8,33 @@ use Rattle.mt_port.specs.declared.request.HandlerCall.TheVariants as handler
 use Rattle.mt_port.specs.declared.request.HandlerOp.{HandlerOp}
 use Rattle.mt_port.specs.declared.request.HandlerOp.TheVariants.{Call}
 use Rattle.mt_port.specs.declared.request.Request.{Request}
-use Rattle.mt_port.specs.Board.{Board, IsSoundInHandler, injected}
+use Rattle.mt_port.specs.Board.{Board}
 use Rattle.mt_window.specs.declared.log.Entry.{Entry}
 use Rattle.mt_window.specs.declared.log.Entry.TheVariants.{Own, Inner, Served}
 use Rattle.mt_window.specs.declared.reply.Reply.{Reply}
 use Rattle.mt_window.specs.declared.reply.Reply.TheVariants as reply
 use Rattle.mt_window.specs.Serving.{Scene, scene}
-use Rattle.mt_window.specs.Events.{Running as Events, event as event_of, opened, ran}
-use Rattle.mt_window.specs.Rows.{next_in, reply_in}
+use Rattle.mt_window.specs.Events.{event as event_of, opened, ran}
+use Rattle.mt_window.specs.Rows.{reply_in}
 use Rattle.mt_blocks.specs.declared.config.ParamSet.{ParamSet}
 use Rattle.mt_blocks.specs.declared.pass.Position.{Position}
 use Rattle.mt_blocks.specs.Slices.{Piece}
 use Rattle.mt_blocks.specs.Laws.{BlocksBegin}
 use Rattle.mt_ram.specs.declared.state.State.{State}
-use Rattle.mt_ram.specs.declared.state.State.TheVariants.{Running, Suspended}
-use Rattle.mt_ram.specs.State.{RamTst, set_of}
-use Rattle.mt_ram.specs.Table.{Service, MainFunction, cell, ram_table}
+use Rattle.mt_ram.specs.declared.state.State.TheVariants.{Suspended}
+use Rattle.mt_ram.specs.State.{RamTst}
+use Rattle.mt_ram.specs.Table.{MainFunction, cell, ram_table}
 use Rattle.mt_ram.specs.Event.{ticking}
 use Rattle.mt_replay.specs.declared.event.Running.{Running as RamRunning}
 use Rattle.mt_replay.specs.declared.event.Running.TheVariants as rams
-use Rattle.mt_replay.specs.Machine.{Machine, Step, events_of, begun, running_ram}
+use Rattle.mt_replay.specs.Machine.{Machine, events_of, begun, running_ram}
 use Rattle.mt_replay.specs.Memory.{handled, inner_replies, own_replies}
-use Rattle.mt_replay.specs.Detection.{answered, AcceptsInHandler, counts}
+use Rattle.mt_replay.specs.Detection.{AcceptsInHandler, counts}
 use Rattle.mt_text.specs.declared.line.Event.TheVariants as event
 use Rattle.mt_replay.proofs.Memories.{inner-append}
 use Rattle.mt_replay.proofs.Scenes.{Handlers, HasBoard, IsSpoiled, Goes, Rows, Stands}
 use Rattle.mt_replay.proofs.SceneEvents.{fresh, event-goes}
-use Rattle.mt_replay.proofs.PassRows.{IsOn, row-on, InPass, InSomePass, InTick, is_stop, is_stop_or_suspend, row-pass, row-tick}
+use Rattle.mt_replay.proofs.PassRows.{IsOn, row-on, InSomePass, InTick, is_stop, is_stop_or_suspend, row-pass, row-tick}
 use Rattle.mt_replay.proofs.PassEvents.{Caught}
 use Rattle.mt_replay.proofs.PassTicks.{PassLaws, longer_phase, tick_middle}
 use Rattle.mt_replay.proofs.PassParts.{part_middle, full_middle}

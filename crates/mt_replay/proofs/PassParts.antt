@@ -1,5 +1,5 @@
 -- Full and partial tests in a pass over a fault that is caught.
-use Rattle.std.proofs.Common.{ℕ, ◌≡◌, ◌<◌, ◌≤◌, Bool, true, false, cond, List, [], ◌∷◌, length, All, Contains, Option, Some, None, refl, sym, ap, ◌∙◌, subst, arith, inl, inr}
+use Rattle.std.proofs.Common.{ℕ, ◌≡◌, ◌<◌, ◌≤◌, Bool, true, false, cond, List, [], ◌∷◌, length, Contains, Option, Some, None, refl, sym, ap, ◌∙◌, subst, arith, inl, inr}
 use Rattle.std.specs.Prelude.{◌⊎◌, IfSome, nat_lt}
 use Rattle.std.proofs.lemmas.Bool.Decides.{nat_tests}
 use Rattle.std.proofs.lemmas.List.{length-map}
@@ -17,13 +17,13 @@ use Rattle.mt_window.specs.Events.{ran, returned}
 use Rattle.mt_window.specs.Rows.{Refuses, Runs, work_in, inside_of, back_from}
 use Rattle.mt_blocks.specs.declared.config.ParamSet.{ParamSet}
 use Rattle.mt_blocks.specs.declared.pass.Position.{Position}
-use Rattle.mt_blocks.specs.Slices.{Piece, piece_at, pieces, span_at, from_place, or_start, IsValid, test_rest, test_from, next_in}
+use Rattle.mt_blocks.specs.Slices.{Piece, piece_at, pieces, span_at, from_place, or_start, IsValid, test_rest, next_in}
 use Rattle.mt_blocks.specs.Groups.{ticks}
-use Rattle.mt_blocks.specs.Laws.{PassesGoOn, BlocksBegin, block_start}
+use Rattle.mt_blocks.specs.Laws.{BlocksBegin, block_start}
 use Rattle.mt_blocks.specs.Accepted.{spans_of}
 use Rattle.mt_ram.specs.declared.state.State.{State}
 use Rattle.mt_ram.specs.declared.state.State.TheVariants.{Running, Suspended, Partial}
-use Rattle.mt_ram.specs.State.{RamTst, set_of, spans_in, IsInside}
+use Rattle.mt_ram.specs.State.{RamTst, IsInside}
 use Rattle.mt_ram.specs.Results.{failed_after}
 use Rattle.mt_ram.specs.Moves.{row-moves}
 use Rattle.mt_ram.specs.Table.{RamCell, RunFullTest, RunPartialTest, cell, testing, in_state, ram_table}
@@ -33,9 +33,9 @@ use Rattle.mt_replay.proofs.Pieces.{pieces-of}
 use Rattle.mt_replay.proofs.Phases.{IsBehind}
 use Rattle.mt_replay.proofs.Scenes.{Handlers, HasBoard, Rows, Stands}
 use Rattle.mt_replay.proofs.SceneEvents.{Passes, Walks, weakened, with_callee, slices-walk, any-middle}
-use Rattle.mt_replay.proofs.PassRows.{IsOn, row-on, InPass, InSomePass, is_stop, row-pass}
+use Rattle.mt_replay.proofs.PassRows.{IsOn, row-on, InPass, InSomePass, is_stop}
 use Rattle.mt_replay.proofs.PassEvents.{Caught, IsSlice, caught_taken, detects, test_attempts, full_enters, part_enters}
-use Rattle.mt_replay.proofs.PassTicks.{PassLaws, behind_next, valid_next, spoiled_or}
+use Rattle.mt_replay.proofs.PassTicks.{PassLaws, behind_next, valid_next, not_both, some_none, spoiled_or}
 
 -- ---- the slices of a partial test
 
@@ -97,12 +97,6 @@ part_slice laws h fault set cells p caught present z Before x more may r failed 
             (failed_after v failed (piece_at set.atomic (spans_of set.blocks) y).last)
         phases y valid here fails (inl before) = inl before
         phases y valid here fails (inr behind) = inr (behind_next false set p y r.results v failed caught.stands valid fails (subst (λ (q : Option Position). IsBehind p.place (or_start q) r.results failed) here behind))
-
-not_both : {b : Bool} → b ≡ true → b ≡ false → ⊥
-not_both e f = (let h : true ≡ false = sym e ∙ f in cc)
-
-some_none : {v : Verdict} {o : Option Verdict} → o ≡ Some v → o ≡ None → ⊥
-some_none {v} e f = (let h : Some v ≡ None = sym e ∙ f in cc)
 
 part_passes : PassLaws → (h : Handlers) (fault : Fault) (set : ParamSet) (cells : ℕ) (p : Piece) → Caught h.shape fault set p → h.fault ≡ Some fault → (z : Suspension) (Before : Type 0) (x : Piece) (more : List Piece)
     → Passes h of_test (IsOn set cells) x (λ r failed. AtPart set p z Before (x ∷ more) r failed) (λ r failed. AtPart set p z Before more r failed)

@@ -1,12 +1,11 @@
 -- What handlers' calls do to RamTst while a pass runs or is suspended.
-use Rattle.std.proofs.Common.{ℕ, ◌≡◌, ◌≤◌, Bool, true, false, cond, List, length, Contains, Option, Some, None, refl, sym, ap, ◌∙◌, subst, inl, inr}
+use Rattle.std.proofs.Common.{ℕ, ◌≡◌, ◌≤◌, Bool, true, false, cond, length, Contains, refl, sym, ap, ◌∙◌, subst, inl, inr}
 use Rattle.std.specs.Prelude.{◌⊎◌, nat_lt, slice_index_or}
 use Rattle.mt_port.specs.declared.request.HandlerCall.{HandlerCall}
 use Rattle.mt_port.specs.declared.request.HandlerCall.TheVariants as calls
 use Rattle.mt_window.specs.declared.reply.Refusal.TheVariants.{Range}
 use Rattle.mt_window.specs.declared.reply.Value.TheVariants.{Result}
 use Rattle.mt_window.specs.declared.reply.TestResult.TheVariants.{NotTested}
-use Rattle.mt_window.specs.declared.reply.Reply.{Reply}
 use Rattle.mt_window.specs.declared.reply.Reply.TheVariants.{Done}
 use Rattle.mt_window.specs.Rows.{Refuses, Answers, next_in, reply_in}
 use Rattle.mt_blocks.specs.declared.config.ParamSet.{ParamSet}
@@ -17,11 +16,9 @@ use Rattle.mt_blocks.specs.Accepted.{spans_of}
 use Rattle.mt_ram.specs.declared.state.State.{State}
 use Rattle.mt_ram.specs.declared.state.State.TheVariants.{Running, Suspended}
 use Rattle.mt_ram.specs.State.{RamTst, set_of}
-use Rattle.mt_ram.specs.Laws.{Moves}
 use Rattle.mt_ram.specs.Moves.{row-moves}
 use Rattle.mt_ram.specs.Table.{Allow, Stop, Suspend, Resume, GetTestResult, GetTestResultPerBlock, cell, telling, suspended, resumed, ram_table}
 use Rattle.mt_replay.proofs.Phases.{IsBehind}
-use Rattle.mt_replay.proofs.Scenes.{Handlers, Rows}
 
 -- ---- one call
 

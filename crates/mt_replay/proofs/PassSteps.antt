@@ -27,7 +27,7 @@ use Rattle.mt_replay.specs.declared.event.FlsRunning.TheVariants as fls_calls
 use Rattle.mt_replay.specs.Machine.{Machine, Step, replied, on_board, service_of, called, by_ram, running_fls, by_fls_service, fls_running_call, fls_service_of, by_event, step}
 use Rattle.mt_replay.specs.Memory.{own_replies}
 use Rattle.mt_replay.specs.Detection.{AcceptsInHandler, IsUndisturbing, counts}
-use Rattle.mt_replay.proofs.PassRows.{IsOn, InPass, InSomePass, telling-still}
+use Rattle.mt_replay.proofs.PassRows.{IsOn, InSomePass, telling-still}
 use Rattle.mt_replay.proofs.PassTicks.{PassLaws}
 use Rattle.mt_replay.proofs.SoundBoards.{AreSoundIn, fls-board}
 use Rattle.mt_replay.proofs.PassLines.{Hunts, Hunt, longer_pass, part_event, full_event, tick_event}

@@ -1,7 +1,7 @@
 -- A tick in a pass over a fault that is caught.
-use Rattle.std.proofs.Common.{ℕ, zero, suc, ◌≡◌, ◌<◌, ◌≤◌, ◌+◌, Bool, true, false, List, [], ◌∷◌, ◌++◌, length, get_or, take, drop, All, Contains, Option, Some, None, refl, sym, ap, ◌∙◌, subst, arith, inl, inr}
+use Rattle.std.proofs.Common.{ℕ, zero, suc, ◌≡◌, ◌<◌, ◌≤◌, ◌+◌, Bool, true, false, List, [], ◌∷◌, ◌++◌, length, get_or, take, drop, Contains, Option, Some, None, refl, sym, ap, ◌∙◌, subst, arith, inl, inr}
 use Rattle.std.specs.Prelude.{◌⊎◌, IfSome}
-use Rattle.std.proofs.lemmas.List.{length-map, take-append-drop}
+use Rattle.std.proofs.lemmas.List.{take-append-drop}
 use Rattle.std.proofs.lemmas.List.Elements.{All-take}
 use Rattle.mt_fault.specs.declared.fault.Fault.{Fault}
 use Rattle.mt_port.specs.declared.request.HandlerCall.{HandlerCall}
@@ -13,13 +13,13 @@ use Rattle.mt_cover.specs.Detection.{AttemptsDetect, WholeAttemptsEnd, AttemptsS
 use Rattle.mt_window.specs.declared.reply.Reply.TheVariants.{Done}
 use Rattle.mt_window.specs.declared.reply.TestResult.{TestResult}
 use Rattle.mt_window.specs.Serving.{Scene, scene}
-use Rattle.mt_window.specs.Slices.{Tests, Trail, started, slices}
+use Rattle.mt_window.specs.Slices.{started, slices}
 use Rattle.mt_window.specs.Events.{ran, returned}
 use Rattle.mt_window.specs.Rows.{work_in, inside_of, back_from}
 use Rattle.mt_blocks.specs.declared.config.ParamSet.{ParamSet}
 use Rattle.mt_blocks.specs.declared.pass.Position.{Position}
 use Rattle.mt_blocks.specs.declared.span.Span.{Span}
-use Rattle.mt_blocks.specs.Slices.{Piece, piece_at, from_place, from_next, next_of, or_start, AreSpans, IsValid, test_rest, next_in, test_from}
+use Rattle.mt_blocks.specs.Slices.{Piece, piece_at, from_place, from_next, next_of, or_start, IsValid, next_in}
 use Rattle.mt_blocks.specs.Groups.{ticks, group_len}
 use Rattle.mt_blocks.specs.Laws.{GoesOn, PassesGoOn}
 use Rattle.mt_blocks.specs.Accepted.{spans_of}
@@ -33,9 +33,9 @@ use Rattle.mt_blocks.proofs.Cuts.{AreSmall}
 use Rattle.mt_ram.proofs.Sets.{accepted_spans, block_there}
 use Rattle.mt_replay.proofs.Pieces.{start-valid, small-from, ticks-group, from-of}
 use Rattle.mt_replay.proofs.Phases.{IsBehind, results_by, Knows, reaches, goes_on}
-use Rattle.mt_replay.proofs.Scenes.{MemoryLaws, Handlers, HasBoard, IsSpoiled, Goes, Rows, Stands}
-use Rattle.mt_replay.proofs.SceneEvents.{Passes, Walks, weakened, with_callee, slices-walk, any-middle}
-use Rattle.mt_replay.proofs.PassRows.{Turn, Stays, Stops, Suspends, Resumes, turn_running, IsOn, row-on, InPass, InSomePass, InTick, is_stop_or_suspend, row-tick}
+use Rattle.mt_replay.proofs.Scenes.{MemoryLaws, Handlers, HasBoard, IsSpoiled, Rows, Stands}
+use Rattle.mt_replay.proofs.SceneEvents.{Passes, Walks, weakened, slices-walk, any-middle}
+use Rattle.mt_replay.proofs.PassRows.{Turn, Stays, Stops, Suspends, Resumes, turn_running, IsOn, row-on, InSomePass, InTick, is_stop_or_suspend}
 use Rattle.mt_replay.proofs.PassEvents.{Caught, IsSlice, caught_taken, detects, pass_attempts, tick_enters}
 
 -- the laws of attempts and passes
@@ -145,10 +145,11 @@ tick_slice laws h fault set cells p caught present rest Before x more may r b v 
         } in
         subst (λ (q : Piece). AtTick set p rest Before more (passed r q v)) (sym head) next
 
-not_both : {b : Bool} → b ≡ true → b ≡ false → ⊥
+-- neither of these can be
+pub not_both : {b : Bool} → b ≡ true → b ≡ false → ⊥
 not_both e f = (let h : true ≡ false = sym e ∙ f in cc)
 
-some_none : {v : Verdict} {o : Option Verdict} → o ≡ Some v → o ≡ None → ⊥
+pub some_none : {v : Verdict} {o : Option Verdict} → o ≡ Some v → o ≡ None → ⊥
 some_none {v} e f = (let h : Some v ≡ None = sym e ∙ f in cc)
 
 tick_passes : PassLaws → (h : Handlers) (fault : Fault) (set : ParamSet) (cells : ℕ) (p : Piece) → Caught h.shape fault set p → h.fault ≡ Some fault → (rest : List Piece) (Before : Type 0) (x : Piece) (more : List Piece)

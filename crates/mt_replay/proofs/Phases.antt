@@ -1,6 +1,6 @@
 -- Where a test of slices stands to a slice whose fault is caught.
-use Rattle.std.proofs.Common.{ℕ, suc, ◌+◌, ◌-◌, ◌*◌, ◌/◌, ◌<◌, ◌≤◌, ◌≡◌, ◌≢◌, Bool, true, false, not, cond, leb, ltb, List, [], ◌∷◌, length, get_or, set, Contains, Option, Some, None, refl, sym, ap, ◌∙◌, subst, arith, inl, inr}
-use Rattle.std.specs.Prelude.{◌⊎◌, ◌&&◌, ◌||◌, slice_get, slice_set, slice_index_or}
+use Rattle.std.proofs.Common.{ℕ, ◌+◌, ◌-◌, ◌*◌, ◌/◌, ◌<◌, ◌≤◌, ◌≡◌, ◌≢◌, Bool, true, false, not, cond, leb, ltb, List, length, Some, None, refl, sym, ap, ◌∙◌, subst, arith, inl, inr}
+use Rattle.std.specs.Prelude.{◌⊎◌, ◌&&◌, slice_get, slice_set, slice_index_or}
 use Rattle.std.proofs.Math.Nat.{mul-le-mul_right, add-mul}
 use Rattle.std.proofs.lemmas.Bool.Decides.{nat_tests}
 use Rattle.std.proofs.lemmas.Option.{slice_get-get_or, slice_get_within, get_or_from_slice_get}
@@ -11,7 +11,7 @@ use Rattle.mt_window.specs.declared.reply.TestResult.{TestResult}
 use Rattle.mt_window.specs.declared.reply.TestResult.TheVariants.{NotTested, NotOk}
 use Rattle.mt_blocks.specs.declared.span.Span.{Span}
 use Rattle.mt_blocks.specs.declared.pass.Position.{Position}
-use Rattle.mt_blocks.specs.Slices.{Piece, piece_at, span_at, span_len, ends_block, next_in, next_of, or_start, AreSpans, IsValid}
+use Rattle.mt_blocks.specs.Slices.{Piece, piece_at, span_at, span_len, ends_block, next_in, or_start, IsValid}
 use Rattle.mt_ram.specs.Results.{result_after, failed_after}
 
 -- what a slice with a verdict makes of the results

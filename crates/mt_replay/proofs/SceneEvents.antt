@@ -1,14 +1,12 @@
 -- Running events in which some calls of handlers are not to be accepted.
-use Rattle.std.proofs.Common.{ℕ, zero, suc, ◌≡◌, Bool, true, false, cond, List, [], ◌∷◌, ◌++◌, length, All, Option, Some, None, refl, sym, ap, ◌∙◌, subst, arith, inl, inr}
+use Rattle.std.proofs.Common.{ℕ, zero, suc, ◌≡◌, Bool, true, false, cond, List, [], ◌∷◌, All, Option, Some, None, refl, sym, ◌∙◌, subst, inl, inr}
 use Rattle.std.specs.Prelude.{◌⊎◌, is_some}
 use Rattle.std.proofs.lemmas.List.Elements.{All-head, All-tail}
 use Rattle.mt_port.specs.declared.request.HandlerCall.{HandlerCall}
-use Rattle.mt_port.specs.declared.request.Request.{Request}
 use Rattle.mt_port.specs.Board.{Board, IsSoundInHandler}
 use Rattle.mt_cover.specs.Detection.{HasSoundWords}
-use Rattle.mt_window.specs.declared.reply.Reply.TheVariants.{Done}
-use Rattle.mt_window.specs.Serving.{Table, Scene, scene, serve_due}
-use Rattle.mt_window.specs.Slices.{Tests, Trail, attempted, taken_by, failed_by, next_attempt, scene_behind, after_attempt, tried, slices}
+use Rattle.mt_window.specs.Serving.{Table, Scene, scene}
+use Rattle.mt_window.specs.Slices.{Tests, Trail, taken_by, failed_by, next_attempt, scene_behind, after_attempt, tried, slices}
 use Rattle.mt_window.specs.Events.{Running, opened, entered, ran, returned, event}
 use Rattle.mt_replay.specs.Memory.{handled}
 use Rattle.mt_replay.proofs.Scenes.{MemoryLaws, Handlers, HasBoard, IsSpoiled, Goes, Rows, Stands, serve_due-stands, serve_left-goes}

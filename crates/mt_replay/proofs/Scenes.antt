@@ -1,12 +1,11 @@
 -- Events in which some calls of handlers are not to be accepted: either one was, or what held of the module holds. The RAM stays sound.
-use Rattle.std.proofs.Common.{ℕ, zero, suc, ◌≡◌, ◌+◌, ◌-◌, ◌<◌, ◌^◌, ◌%◌, Bool, true, false, cond, List, [], ◌∷◌, ◌++◌, length, zip, drop, All, Contains, Option, Some, None, refl, sym, ap, ◌∙◌, subst, arith, inl, inr, append-nil}
-use Rattle.std.specs.Prelude.{◌⊎◌, is_some, nat_le}
+use Rattle.std.proofs.Common.{ℕ, ◌≡◌, ◌+◌, ◌-◌, ◌<◌, ◌^◌, Bool, true, List, [], ◌∷◌, ◌++◌, length, zip, drop, All, Contains, Option, refl, sym, ap, ◌∙◌, subst, arith, inl, inr, append-nil}
+use Rattle.std.specs.Prelude.{◌⊎◌, nat_le}
 use Rattle.std.proofs.Math.Nat.{mod-lt}
 use Rattle.std.proofs.lemmas.List.Elements.{All-head, All-tail, Contains-append_left, Contains-push}
 use Rattle.mt_word.specs.Word.{width_bits, Fits}
 use Rattle.mt_fault.specs.History.{Read, Write}
 use Rattle.mt_fault.specs.declared.fault.Fault.{Fault}
-use Rattle.mt_fault.specs.Memory as memory
 use Rattle.mt_port.specs.declared.board.Shape.{Shape}
 use Rattle.mt_port.specs.declared.request.AppOp.{AppOp}
 use Rattle.mt_port.specs.declared.request.AppOp.TheVariants as app

@@ -1,5 +1,5 @@
 -- What RamTst keeps from line to line: its setting, a result for each block of its set, and a number of cells that is enough for a slice.
-use Rattle.std.proofs.Common.{ℕ, zero, suc, ◌≡◌, ◌≤◌, Bool, true, false, cond, List, [], ◌∷◌, length, replicate, All, Option, Some, None, refl, sym, ap, ◌∙◌, subst, arith}
+use Rattle.std.proofs.Common.{ℕ, zero, suc, ◌≡◌, ◌≤◌, Bool, true, false, cond, List, [], ◌∷◌, length, All, Some, None, refl, sym, subst, arith}
 use Rattle.std.specs.Prelude.{nat_lt, nat_le, ◌&&◌, slice_index_or}
 use Rattle.std.proofs.lemmas.Bool.Decides.{nat_tests}
 use Rattle.std.proofs.lemmas.List.{length-replicate}
@@ -11,9 +11,9 @@ use Rattle.mt_window.specs.declared.reply.TestResult.TheVariants.{NotTested}
 use Rattle.mt_window.specs.Rows.{Refuses, Goes, Answers, Runs, next_in}
 use Rattle.mt_blocks.specs.declared.config.ParamSet.{ParamSet}
 use Rattle.mt_blocks.specs.Slices.{Piece, pieces, span_at}
-use Rattle.mt_blocks.specs.Accepted.{set_at, no_set, IsAcceptedSet}
+use Rattle.mt_blocks.specs.Accepted.{set_at, IsAcceptedSet}
 use Rattle.mt_ram.specs.declared.state.State.{State}
-use Rattle.mt_ram.specs.declared.state.State.TheVariants.{Uninit, Stopped, Running, Suspended, Full, Partial}
+use Rattle.mt_ram.specs.declared.state.State.TheVariants.{Uninit, Stopped, Running, Suspended, Partial}
 use Rattle.mt_ram.specs.State.{Setting, RamTst, set_of, spans_in}
 use Rattle.mt_ram.specs.Table.{Service, Init, DeInit, Allow, Stop, Suspend, Resume, SelectAlgParams, ChangeNumberOfTestedCells, RunFullTest, RunPartialTest, MainFunction, GetTestResultPerBlock, GetTestResult, GetAlgParams, GetTestAlgorithm, GetNumberOfTestedCells, GetExecutionStatus, GetVersionInfo, cell, in_state, after, selecting, selected, changing, testing, telling}
 use Rattle.mt_replay.proofs.PassEvents.{IsTaken}

@@ -1,5 +1,5 @@
 -- The RAM of a replay is sound, and RamTst keeps a set of the configuration.
-use Rattle.std.proofs.Common.{ℕ, ◌≡◌, ◌≤◌, Bool, true, false, not, cond, List, [], ◌∷◌, ◌++◌, length, replicate, All, Option, Some, None, refl, sym, ap, ◌∙◌, subst, arith}
+use Rattle.std.proofs.Common.{ℕ, ◌≡◌, ◌≤◌, Bool, true, false, not, cond, List, [], ◌∷◌, length, replicate, All, Option, Some, None, refl, sym, ap, ◌∙◌, subst, arith}
 use Rattle.std.specs.Prelude.{is_some, slice_index, IsTrue, ◌↔◌, ◌&&◌}
 use Rattle.std.proofs.lemmas.List.{length-set, length-replicate}
 use Rattle.std.proofs.lemmas.List.Elements.{All-nil, All-append, All-head, All-tail}
@@ -12,14 +12,13 @@ use Rattle.mt_fault.specs.Placement.{IsWellPlaced, in_range, same_word}
 use Rattle.mt_fault.specs.Memory as memory
 use Rattle.mt_fault.specs.Memory.{first_words, set_spot}
 use Rattle.mt_port.specs.declared.board.Shape.{Shape}
-use Rattle.mt_port.specs.declared.request.HandlerCall.{HandlerCall}
 use Rattle.mt_port.specs.declared.request.Request.{Request}
 use Rattle.mt_port.specs.Board.{Board, IsSoundInHandler, IsWithinLimits, memory_of, injected, fitting, begun_words, powered_up}
 use Rattle.mt_cover.specs.Detection.{HasSoundWords}
 use Rattle.mt_window.specs.declared.reply.Reply.TheVariants as replies
 use Rattle.mt_window.specs.declared.reply.TestResult.TheVariants.{NotTested}
 use Rattle.mt_window.specs.Serving.{Scene, scene}
-use Rattle.mt_window.specs.Events.{Running as Events, event as event_of}
+use Rattle.mt_window.specs.Events.{event as event_of}
 use Rattle.mt_window.specs.Kept.{cond_case}
 use Rattle.mt_blocks.specs.declared.config.ParamSet.{ParamSet}
 use Rattle.mt_blocks.specs.Slices.{Piece}
@@ -40,11 +39,11 @@ use Rattle.mt_replay.specs.declared.event.Running.{Running}
 use Rattle.mt_replay.specs.declared.event.Running.TheVariants as rams
 use Rattle.mt_replay.specs.declared.event.FlsRunning.{FlsRunning}
 use Rattle.mt_replay.specs.declared.event.FlsRunning.TheVariants as fls_calls
-use Rattle.mt_replay.specs.Machine.{Machine, Step, events_of, fls_events_of, begun, replied, on_board, running_ram, running_fls, by_service, running_call, service_of, by_fls_service, fls_running_call, fls_service_of, by_event, step, started}
+use Rattle.mt_replay.specs.Machine.{Machine, events_of, fls_events_of, begun, replied, on_board, running_ram, running_fls, by_service, running_call, service_of, by_fls_service, fls_running_call, fls_service_of, by_event, step, started}
 use Rattle.mt_replay.specs.Memory.{handled}
 use Rattle.mt_replay.specs.Outcome.{played}
-use Rattle.mt_replay.proofs.Scenes.{MemoryLaws, Handlers, HasBoard, Goes, Stands, operation_sound}
-use Rattle.mt_replay.proofs.SceneEvents.{Attempts, Enters, Anything, fresh, any-event}
+use Rattle.mt_replay.proofs.Scenes.{Handlers, HasBoard, Stands, operation_sound}
+use Rattle.mt_replay.proofs.SceneEvents.{Enters, Anything, fresh, any-event}
 use Rattle.mt_replay.proofs.PassRows.{IsOn}
 use Rattle.mt_replay.proofs.PassEvents.{IsTaken, IsSlice, tick_enters, full_enters, part_enters}
 use Rattle.mt_replay.proofs.PassTicks.{PassLaws}
