@@ -1,5 +1,5 @@
--- From coverage to sequences.
-use Rattle.std.proofs.Common.{ℕ, zero, suc, ◌+◌, ◌<◌, ◌≤◌, ◌≡◌, true, List, [], length, length-append, get_or, All, Option, Some, refl, sym, ap, ◌∙◌, subst, arith}
+-- From coverage to sequences and attempts.
+use Rattle.std.proofs.Common.{ℕ, zero, suc, ◌+◌, ◌<◌, ◌≤◌, ◌≡◌, true, List, [], length, length-append, get_or, All, Option, Some, None, refl, sym, ap, ◌∙◌, subst, arith}
 use Rattle.std.specs.Prelude.{slice_index}
 use Rattle.std.proofs.lemmas.List.{length-map}
 use Rattle.std.proofs.lemmas.List.Elements.{All-map, All-nil, All-push}
@@ -9,6 +9,8 @@ use Rattle.mt_fault.specs.declared.fault.Fault.{Fault}
 use Rattle.mt_fault.specs.Faulty.{answer}
 use Rattle.mt_fault.specs.Items.{passes}
 use Rattle.mt_fault.specs.Memory as memory
+use Rattle.mt_fault.specs.Placement.{IsInside}
+use Rattle.mt_port.specs.Board.{Board}
 use Rattle.mt_plan.specs.declared.algorithm.Algorithm.{Algorithm}
 use Rattle.mt_plan.specs.declared.algorithm.Algorithm.TheVariants.{Checkerboard, March, WalkPath, Galpat, TransparentGalpat}
 use Rattle.mt_plan.specs.declared.algorithm.Policy.{Policy}
@@ -16,18 +18,21 @@ use Rattle.mt_plan.specs.declared.algorithm.Policy.TheVariants.{NonDestructive}
 use Rattle.mt_plan.specs.Lists.{cells}
 use Rattle.mt_plan.specs.Plan.{steps_of}
 use Rattle.mt_seq.specs.declared.sequence.Slice.{Slice}
-use Rattle.mt_seq.specs.Sequence.{saved_words, testing, back_of, is_transparent}
+use Rattle.mt_seq.specs.declared.sequence.Job.{Job}
+use Rattle.mt_seq.specs.declared.sequence.Verdict.TheVariants.{Fail}
+use Rattle.mt_seq.specs.Sequence.{saved_words, testing, back_of, is_transparent, sequence_verdict, IsSoundJob, IsSoundSlice}
+use Rattle.mt_seq.specs.Attempts.{attempt_verdict, verdict_to, dropped_at}
 use Rattle.mt_seq.specs.Laws.{CaughtFaultsFail}
 use Rattle.mt_cover.specs.declared.class.Class.{Class}
 use Rattle.mt_cover.specs.declared.class.Class.TheVariants as classes
 use Rattle.mt_cover.specs.Coverage.{class_of, IsTabled, HasOneWord, Coverage}
-use Rattle.mt_cover.specs.Detection.{Detection}
+use Rattle.mt_cover.specs.Detection.{Detection, HasSoundWords, AttemptsDetect, WholeAttemptsEnd}
 
 -- a read of a sound memory answers a word that fits: the law of mt_fault
 abbrev pub AnswersFit : Type 0
 AnswersFit = (m : memory.Memory) → memory.IsSound m → (a : ℕ) → a < length m.words → Fits m.width (answer m.fault m.words [] a)
 
-cells_below : (n : ℕ) → All (λ (c : ℕ). c < n) (cells n)
+pub cells_below : (n : ℕ) → All (λ (c : ℕ). c < n) (cells n)
 cells_below zero = All-nil (λ (c : ℕ). c < zero)
 cells_below (suc n) = All-push (λ (c : ℕ). c < suc n) (cells n) n (λ k d h. omega (arith, cells_below n k d h)) (omega arith)
 
@@ -68,8 +73,10 @@ one_word WalkPath policy background fill saved n class tabled is i j h g = refl
 one_word Galpat policy background fill saved n class tabled is i j h g = refl
 one_word TransparentGalpat policy background fill saved n class tabled is i j h g = absurd (tabled.1 is)
 
-pub detection : Coverage → CaughtFaultsFail → AnswersFit → Detection
-detection coverage caught_fails answers_fit b job slice fault sound present good at tabled inside =
+-- what a sequence answers goes by the words and the fault alone
+sequence_detects : Coverage → CaughtFaultsFail → AnswersFit → (b : Board) (job : Job) (slice : Slice) (fault : Fault) → HasSoundWords b → b.fault ≡ Some fault → IsSoundJob b.shape.width job
+    → IsSoundSlice b.shape.ram slice → IsTabled job.alg (class_of fault) → IsInside fault slice.first slice.n → sequence_verdict b job slice ≡ Fail
+sequence_detects coverage caught_fails answers_fit b job slice fault sound present good at tabled inside =
     let width = b.shape.width in
     let saved = saved_words job.policy b.fault b.words slice in
     let whole = subst (λ (f : Option Fault). memory.IsSound (record { width = width; fault = f; words = b.words })) present sound.memory in
@@ -81,3 +88,22 @@ detection coverage caught_fails answers_fit b job slice fault sound present good
     ap (λ (f : Option Fault). passes f b.words earlier (testing width job slice saved (steps_of job.alg slice.n))) present
     ∙ coverage job.alg fault good.accepted tabled width (length b.words) slice.first slice.n (back_of job saved) whole.placed inside fits
     (one_word job.alg job.policy job.background job.fill saved slice.n (class_of fault) tabled) b.words earlier)
+
+pub detection : Coverage → CaughtFaultsFail → AnswersFit → Detection
+detection coverage caught_fails answers_fit b job slice fault sound present good at tabled inside =
+    sequence_detects coverage caught_fails answers_fit b job slice fault (record { sized = sound.sized; memory = sound.memory }) present good at tabled inside
+
+-- an attempt has the verdict of its sequence, or none
+pub attempts_detect : Coverage → CaughtFaultsFail → AnswersFit → AttemptsDetect
+unfolding attempt_verdict
+attempts_detect coverage caught_fails answers_fit may b job slice fault v sound present good at tabled inside = of (dropped_at may b job slice)
+  where
+    of : (dropped : Option ℕ) → verdict_to b job slice dropped ≡ Some v → v ≡ Fail
+    of None e =
+        let same : v ≡ sequence_verdict b job slice = cc in
+        same ∙ sequence_detects coverage caught_fails answers_fit b job slice fault sound present good at tabled inside
+    of (Some i) e = absurd cc
+
+pub whole_attempts_end : WholeAttemptsEnd
+unfolding attempt_verdict dropped_at
+whole_attempts_end b job slice = (sequence_verdict b job slice, refl)

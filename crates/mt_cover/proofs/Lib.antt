@@ -12,3 +12,4 @@ pub mod Table
 pub mod Further
 pub mod Indices
 pub mod Detection
+pub mod Writes

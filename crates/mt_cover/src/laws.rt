@@ -1,7 +1,7 @@
 //! Laws of coverage.
 
 ghost use Rattle.mt_cover.specs.Coverage.{Coverage, MissesEachTabledFault};
-ghost use Rattle.mt_cover.specs.Detection.{Detection};
+ghost use Rattle.mt_cover.specs.Detection.{Detection, AttemptsDetect, WholeAttemptsEnd, AttemptsStaySound};
 ghost use Rattle.mt_cover.specs.Further.{FurtherCoverage, MatsCatchesOneDirection};
 
 use mt_decoder::nothing_is_missed_where_all_pass;
@@ -35,6 +35,23 @@ pub fn each_tabled_fault_in_a_slice_fails()
 {
     each_tabled_fault_is_caught();
     caught_faults_fail();
+    memory_stays_sound();
+}
+
+/// An attempt at such a slice that comes to a verdict fails too, and one that may not be dropped comes to a verdict.
+pub fn attempts_detect()
+    ensures detects { AttemptsDetect }
+    ensures ends { WholeAttemptsEnd }
+{
+    each_tabled_fault_is_caught();
+    caught_faults_fail();
+    memory_stays_sound();
+}
+
+/// Whether it is dropped or not, an attempt at a slice leaves the RAM sound.
+pub fn attempts_stay_sound()
+    ensures { AttemptsStaySound }
+{
     memory_stays_sound();
 }
 

@@ -8,8 +8,8 @@ mod laws;
 pub use class::{Class, class_of};
 pub use coverage::covers;
 pub use laws::{
-    each_tabled_fault_has_an_index, each_tabled_fault_in_a_slice_fails,
-    each_tabled_fault_is_caught, further_faults_are_caught,
+    attempts_detect, attempts_stay_sound, each_tabled_fault_has_an_index,
+    each_tabled_fault_in_a_slice_fails, each_tabled_fault_is_caught, further_faults_are_caught,
 };
 
 #[cfg(test)]

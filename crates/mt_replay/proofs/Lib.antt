@@ -21,3 +21,16 @@ pub mod Plain
 pub mod Memories
 pub mod PlainMemories
 pub mod Locates
+pub mod Pieces
+pub mod Phases
+pub mod Scenes
+pub mod SceneEvents
+pub mod PassRows
+pub mod PassEvents
+pub mod PassTicks
+pub mod PassParts
+pub mod SetsStay
+pub mod SoundBoards
+pub mod PassLines
+pub mod PassSteps
+pub mod Detects

@@ -144,10 +144,10 @@ answer-found z b op fault shape flash =
 
 -- ---- one operation of a handler
 
-moved : (a done : List HandlerOp) (op : HandlerOp) (more : List HandlerOp) → a ≡ done ++ op ∷ more → a ≡ (done ++ op ∷ []) ++ more
+pub moved : (a done : List HandlerOp) (op : HandlerOp) (more : List HandlerOp) → a ≡ done ++ op ∷ more → a ≡ (done ++ op ∷ []) ++ more
 moved a done op more e = e ∙ sym (append_assoc done (op ∷ []) more)
 
-counted : (done : List HandlerOp) (op : HandlerOp) (log : List Entry) (reply : Reply) → length (inner_replies log) ≡ length done
+pub counted : (done : List HandlerOp) (op : HandlerOp) (log : List Entry) (reply : Reply) → length (inner_replies log) ≡ length done
     → length (inner_replies (log ++ Inner reply ∷ [])) ≡ length (done ++ op ∷ [])
 counted done op log reply e =
     ap (λ (l : List Reply). length l) (inner-append log (Inner reply ∷ [])) ∙ length-append (inner_replies log) (reply ∷ []) ∙ ap (λ (n : ℕ). n + 1) e ∙ sym (length-append done (op ∷ []))
@@ -198,7 +198,7 @@ operated_all-finds : {C : Type 0} (t : Table C) (z : Start) (most : ℕ) (all op
 operated_all-finds t z most all [] more s h = h
 operated_all-finds t z most all (op ∷ ops) more s h = operated_all-finds t z most all ops more (operated t s op) (operated-finds t z most all op (ops ++ more) s h)
 
-operated_all-left : {C : Type 0} (t : Table C) (ops : List HandlerOp) (s : Scene C) → (operated_all t ops s).board.left ≡ s.board.left
+pub operated_all-left : {C : Type 0} (t : Table C) (ops : List HandlerOp) (s : Scene C) → (operated_all t ops s).board.left ≡ s.board.left
 operated_all-left t [] s = refl
 operated_all-left t (op ∷ ops) s = operated_all-left t ops (operated t s op)
 

@@ -23,6 +23,7 @@ use Rattle.mt_replay.specs.Latency.{ServesInTime}
 use Rattle.mt_replay.specs.Locate.{locating, LocatingIsExact}
 use Rattle.mt_replay.specs.Plain.{ReplaysLeaveNoTrace}
 use Rattle.mt_replay.specs.Memory.{ReplaysArePlain}
+use Rattle.mt_replay.specs.Detection.{PassesFindFaults}
 use Rattle.mt_replay.specs.Ticks.{TicksAreLeast}
 
 -- ---- the words
@@ -188,3 +189,8 @@ ListsWhatExplains asked = Unit {0}
 abbrev pub TellsLeastTicks : Option Asked → Option Fault → Type 0
 TellsLeastTicks (Some (asks.Job (forms.Cut ask))) defect = TicksAreLeast ask defect
 TellsLeastTicks asked defect = Unit {0}
+
+-- Where a pass of a replay runs undisturbed over a fault that its algorithm catches, the block of its slice is NOT_OK behind it.
+abbrev pub FindsFaults : Option Asked → Option Fault → Type 0
+FindsFaults (Some (asks.Job forms.Run)) defect = PassesFindFaults defect
+FindsFaults asked defect = Unit {0}

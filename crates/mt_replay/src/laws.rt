@@ -1,9 +1,15 @@
 //! Laws of replays.
 
+ghost use Rattle.std.specs.declared.option.Option.{Option};
+ghost use Rattle.mt_fault.specs.declared.fault.Fault.{Fault};
+ghost use Rattle.mt_replay.specs.Detection.{PassesFindFaults};
 ghost use Rattle.mt_replay.specs.Fixed.{FormattingKeepsOutcomes, MigratingKeepsOutcomes};
 ghost use Rattle.mt_replay.specs.Latency.{TracesAreOfSteps};
 
+use mt_blocks::{passes_begin, passes_go_on};
 use mt_conf::accepted_is_taken;
+use mt_cover::{attempts_detect, attempts_stay_sound};
+use mt_fault::{memory_stays_sound, placement_is_tested, sound_memory_comes_and_goes};
 
 /// The text of a replay is that of the steps of its lines, and then one line on how it ended.
 pub fn traces_are_of_steps()
@@ -24,4 +30,20 @@ pub fn migrating_keeps_outcomes()
     ensures { MigratingKeepsOutcomes }
 {
     accepted_is_taken();
+}
+
+/// Where a pass of a replay runs undisturbed over a fault that its algorithm catches, the block of its slice is NOT_OK
+/// behind it.
+pub fn passes_find_faults()
+    ensures { (defect : Option Fault) → PassesFindFaults defect }
+{
+    accepted_is_taken();
+    // An attempt fails where its algorithm catches the fault, and the RAM stays sound.
+    attempts_detect();
+    attempts_stay_sound();
+    memory_stays_sound();
+    sound_memory_comes_and_goes();
+    placement_is_tested();
+    passes_begin();
+    passes_go_on();
 }

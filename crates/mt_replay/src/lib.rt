@@ -17,6 +17,8 @@ mod status;
 mod text;
 mod top;
 
-pub use laws::{formatting_keeps_outcomes, migrating_keeps_outcomes, traces_are_of_steps};
+pub use laws::{
+    formatting_keeps_outcomes, migrating_keeps_outcomes, passes_find_faults, traces_are_of_steps,
+};
 pub use status::{Status, exit_number};
 pub use top::replay;

@@ -2,10 +2,11 @@
 
 ghost use Rattle.std.specs.Prelude.{◌≡◌};
 ghost use Rattle.mt_replay.specs.Changes.{change};
-ghost use Rattle.mt_replay.specs.Replay.{form_named, ask_of, ask_named, form_of, Replays, StatusCaused, LeavesBoard, IsLeftFree, Completes, AreServedInTime, LeavesNoTrace, ListsWhatExplains, TellsLeastTicks};
+ghost use Rattle.mt_replay.specs.Replay.{form_named, ask_of, ask_named, form_of, Replays, StatusCaused, LeavesBoard, IsLeftFree, Completes, AreServedInTime, LeavesNoTrace, ListsWhatExplains, TellsLeastTicks, FindsFaults};
 
 use crate::form::{Ask, Asked, Form};
 use crate::job::{replay_job, tell};
+use crate::laws::passes_find_faults;
 use crate::locate::locate_job;
 use crate::status::Status;
 use mt_conf::accepted_is_taken;
@@ -121,6 +122,9 @@ pub fn replay<S: Source, K: Sink, B: Bench>(
     ensures exact { ListsWhatExplains (form_of words.now) }
     // Whatever bytes the job has, no cut under the budget has fewer ticks than `cut` tells.
     ensures least { TellsLeastTicks (form_of words.now) (B.state board.old).defect }
+    // Whatever bytes the job has, where a pass of its replay runs undisturbed over a fault that its algorithm catches, the
+    // block of its slice is NOT_OK behind it.
+    ensures detects { FindsFaults (form_of words.now) (B.state board.old).defect }
 {
     // No cut under a budget has fewer ticks than the longest runs.
     longest_runs_are_least();
@@ -137,6 +141,7 @@ pub fn replay<S: Source, K: Sink, B: Bench>(
     running_calls_leave_setting();
     ram_keeps_the_board();
     fls_keeps_the_board();
+    passes_find_faults();
     match form_of(words) {
         Some(Asked::Job(form)) => replay_job(alloc, form, source, sink, board),
         Some(Asked::Locate) => locate_job(alloc, source, sink),

@@ -17,6 +17,7 @@ use Rattle.mt_replay.proofs.Latencies.{are_served_in_time}
 use Rattle.mt_replay.proofs.Cuts.{tells_least_ticks}
 use Rattle.mt_replay.proofs.Locates.{lists_what_explains}
 use Rattle.mt_replay.proofs.Defects.{boards_stay}
+use Rattle.mt_replay.proofs.Detects.{finds_faults}
 use Rattle.mt_replay.proofs.Plain.{leave_no_trace}
 use Rattle.mt_replay.proofs.PlainMemories.{leaves_no_trace}
 use Rattle.mt_replay.proofs.top.replay.Goals as goal
@@ -111,3 +112,12 @@ returns-in-Some-Locate-clause-exact g c = lists_what_explains c.faults_of_the_sl
 
 pub returns-in-None-clause-exact : goal.returns-in-None-clause-exact
 returns-in-None-clause-exact g c = lists_what_explains c.faults_of_the_slice_are_listed.ensures c.explaining_is_tested.ensures c.faults_are_listed_once.ensures _
+
+pub returns-in-Some-Job-clause-detects : goal.returns-in-Some-Job-clause-detects
+returns-in-Some-Job-clause-detects g c = finds_faults c.passes_find_faults.ensures _ (g.B.Port.state c.args.board.now).defect
+
+pub returns-in-Some-Locate-clause-detects : goal.returns-in-Some-Locate-clause-detects
+returns-in-Some-Locate-clause-detects g c = finds_faults c.passes_find_faults.ensures _ (g.B.Port.state c.args.board.now).defect
+
+pub returns-in-None-clause-detects : goal.returns-in-None-clause-detects
+returns-in-None-clause-detects g c = finds_faults c.passes_find_faults.ensures _ (g.B.Port.state c.args.board.now).defect
