@@ -1,11 +1,15 @@
 -- RamTst is initialized by the first line of a generated script, and stays so.
-use Rattle.std.proofs.Common.{◌≡◌, Bool, true, false, cond, ℕ, List, [], ◌∷◌, ◌++◌, length, All, Option, Some, None, refl}
+use Rattle.std.proofs.Common.{◌≡◌, Bool, true, false, cond, ℕ, List, [], ◌∷◌, length, All, Option, refl}
 use Rattle.std.specs.Prelude.{nat_lt, slice_index_or}
 use Rattle.std.proofs.lemmas.List.Elements.{All-head, All-tail, All-from_recursion}
 use Rattle.mt_port.specs.declared.request.HandlerCall.{HandlerCall}
 use Rattle.mt_port.specs.declared.request.HandlerCall.TheVariants as calls
 use Rattle.mt_fault.specs.declared.fault.Fault.{Fault}
 use Rattle.mt_text.specs.declared.line.Line.{Line}
+use Rattle.mt_text.specs.declared.line.Event.TheVariants as event
+use Rattle.mt_text.specs.declared.line.RamCall.TheVariants as ram_calls
+use Rattle.mt_text.specs.declared.line.FlsCall.TheVariants as fls_calls
+use Rattle.mt_text.specs.Lines.{line as line_with}
 use Rattle.mt_window.specs.declared.reply.Refusal.TheVariants as refusal
 use Rattle.mt_window.specs.declared.reply.Value.TheVariants as value
 use Rattle.mt_window.specs.declared.reply.Reply.TheVariants as reply
@@ -18,10 +22,10 @@ use Rattle.mt_ram.specs.declared.state.State.{State}
 use Rattle.mt_ram.specs.declared.state.State.TheVariants.{Uninit, Stopped, Running, Suspended, Full, Partial}
 use Rattle.mt_ram.specs.State.{RamTst}
 use Rattle.mt_ram.specs.Results.{overall}
-use Rattle.mt_ram.specs.Table.{Service, Init, Allow, Stop, Suspend, Resume, GetExecutionStatus, GetTestResult, GetTestResultPerBlock, MainFunction, RamCell, cell, row, reply_to, telling, handled, handler_next, ram_table}
+use Rattle.mt_ram.specs.Table.{Init, Allow, Stop, Suspend, Resume, GetTestResult, GetTestResultPerBlock, MainFunction, RamCell, initialised, cell, row, reply_to, telling, ram_table}
 use Rattle.mt_ram.specs.Event.{of_pass, ticking}
 use Rattle.mt_gen.specs.Config.{job_config}
-use Rattle.mt_gen.specs.Script.{interrupt, ram_tick, first_lines, script}
+use Rattle.mt_gen.specs.Script.{ram_tick, first_lines, lines_behind, script}
 use Rattle.mt_gen.proofs.ScriptLemmas.{OfEachForm, of_number, script_all}
 use Rattle.mt_replay.specs.Machine.{Machine, begun, step, started}
 use Rattle.mt_replay.specs.Outcome.{played}
@@ -86,7 +90,7 @@ result-up r (Partial back) = λ h. h
 telling-up : (r : RamTst) (block : ℕ) → StaysUp r (next_in (telling r block) r)
 telling-up r block = of (nat_lt block (length r.results))
   where
-    of : (b : Bool) → StaysUp r (next_in (cond b (Answers (value.Result (slice_index_or r.results block NotTested))) (Refuses refusal.Range)) r)
+    of : (b : Bool) → StaysUp r (next_in (let c : RamCell = cond b (Answers (value.Result (slice_index_or r.results block NotTested))) (Refuses refusal.Range) in c) r)
     of true = λ h. h
     of false = λ h. h
 
@@ -155,9 +159,16 @@ played-up : (m : Machine) (lines : List Line) → All KeepsUp lines → StaysUp 
 played-up m [] all h = h
 played-up m (line ∷ more) all h = played-up (step m line).after more (All-tail KeepsUp line more all) (All-head KeepsUp line more all m h)
 
+begins-up : (r : RamTst) → IsUp (initialised r)
+begins-up r e = cc
+
 pub script_up : (number : ℕ) (defect : Option Fault) → IsUp ((played (started job_config defect) (script number)).after.modules.ram)
 unfolding script step
-script_up number defect = played-up _ _ (All-tail KeepsUp _ _ (script_all KeepsUp keeps_first (of_number KeepsUp keeps_forms) number)) (λ e. cc)
+script_up number defect =
+    let first = line_with (event.Ram ram_calls.Init) [] in
+    let more : List Line = line_with (event.Fls fls_calls.Init) [] ∷ line_with (event.Ram ram_calls.Allow) [] ∷ lines_behind 19997 number in
+    played-up (step (started job_config defect) first).after more
+    (All-tail KeepsUp first more (script_all KeepsUp keeps_first (of_number KeepsUp keeps_forms) number)) (begins-up (started job_config defect).modules.ram)
 
 -- ---- what it tells
 

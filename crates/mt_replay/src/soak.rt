@@ -1,13 +1,13 @@
 //! The form `soak`: the generated script with a number is replayed, and its sums are written.
 
-ghost use Rattle.std.specs.Prelude.{◌≡◌, ◌≢◌};
+ghost use Rattle.std.specs.Prelude.{◌≡◌, ◌≢◌, ◌≤◌, length};
 ghost use Rattle.mt_text.specs.Accepted.{IsAccepted as IsAcceptedLine};
 ghost use Rattle.mt_ram.specs.Results.{overall};
 ghost use Rattle.mt_gen.specs.Script.{job_shape, script};
 ghost use Rattle.mt_replay.specs.Machine.{machine, step, IsReady};
 ghost use Rattle.mt_replay.specs.Changes.{change};
 ghost use Rattle.mt_replay.specs.Inner.Runs.{outputs};
-ghost use Rattle.mt_replay.specs.Inner.Soaks.{HasRoom, IsLittleMore, Adds, Sums};
+ghost use Rattle.mt_replay.specs.Inner.Soaks.{entered, with_line, HasRoom, IsLittleMore, Adds, Sums};
 ghost use Rattle.mt_replay.specs.Replay.{SoakGives, IsLeftFree};
 
 use crate::event::perform;
@@ -22,6 +22,23 @@ use mt_ram::{Ram, State, running_calls_keep_the_board as ram_keeps_the_board};
 use mt_text::Line;
 use mt_window::{Entry, EventLog, Reply, TestResult, Value};
 use std::alloc::Global;
+
+// Adds up what one line more enters: what its requests made, and its own reply, where it has one.
+fn add_line(summary: &mut Summary, log: &[Entry], reply: Option<Reply>)
+    requires room { HasRoom summary.old }
+    requires few { length log.now ≤ 256 }
+    ensures sums { summary.new ≡ with_line summary.old (entered log.now reply) }
+    ensures little { IsLittleMore summary.old summary.new }
+{
+    summary.lines += 1;
+    match reply {
+        None => {}
+        Some(reply) => {
+            summary.add_all(log);
+            summary.add_all(&[Entry::Own(reply)]);
+        }
+    }
+}
 
 // Does what an accepted line asks for, and adds up what it enters.
 fn soak_line<B: Bench>(
@@ -43,11 +60,8 @@ fn soak_line<B: Bench>(
     ram_keeps_the_board();
     fls_keeps_the_board();
     log.clear();
-    if let Some(reply) = perform(modules, board, line, log) {
-        summary.add_all(log.entries());
-        summary.add_all(&[Entry::Own(reply)]);
-    }
-    summary.lines += 1;
+    let reply = perform(modules, board, line, log);
+    add_line(summary, log.entries(), reply);
 }
 
 // Replays the lines of the script with a number, one after another. Answers their sums.

@@ -89,12 +89,12 @@ pub fn bad_config_text(why: &Refused) -> Text
     }
 }
 
-/// The lines of a summary: at most 115 bytes.
-pub type SummaryText = ArrayVec<u8, 128>;
+/// The lines of a summary: at most 115 bytes, and room for more digits than numbers have.
+pub type SummaryText = ArrayVec<u8, 256>;
 
 // Appends a line of a word and a text.
 fn push_word_line(out: &mut SummaryText, word: &[u8], text: &[u8])
-    requires { length out.old.items + length word.now + length text.now + 2 ≤ 128 }
+    requires { length out.old.items + length word.now + length text.now + 2 ≤ 256 }
     ensures text { out.new.items ≡ out.old.items ++ word_text word.now text.now }
     ensures len { length out.new.items ≡ length out.old.items + length word.now + length text.now + 2 }
 {
@@ -106,7 +106,7 @@ fn push_word_line(out: &mut SummaryText, word: &[u8], text: &[u8])
 
 // Appends a line of a word and a number.
 fn push_number_line(out: &mut SummaryText, word: &[u8], number: u64)
-    requires { length out.old.items + length word.now + 22 ≤ 128 }
+    requires { length out.old.items + length word.now + 22 ≤ 256 }
     ensures text { out.new.items ≡ out.old.items ++ number_text word.now number }
     ensures len { length out.new.items ≤ length out.old.items + length word.now + 22 }
 {

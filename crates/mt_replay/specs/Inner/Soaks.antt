@@ -1,9 +1,11 @@
 -- What the calls of the form `soak` do.
-use Rattle.std.specs.Prelude.{ℕ, ◌+◌, ◌-◌, ◌*◌, ◌^◌, ◌<◌, ◌≤◌, ◌≡◌, List, length, fold, Option}
+use Rattle.std.specs.Prelude.{◌+◌, ◌-◌, ◌*◌, ◌^◌, ◌<◌, ◌≤◌, ◌≡◌, List, [], ◌∷◌, ◌++◌, length, fold, Option, Some, None}
 use Rattle.mt_port.specs.Board.{Logs}
 use Rattle.mt_port.specs.declared.board.Touch.{Touch}
 use Rattle.mt_text.specs.declared.line.Line.{Line}
 use Rattle.mt_window.specs.declared.log.Entry.{Entry}
+use Rattle.mt_window.specs.declared.log.Entry.TheVariants.{Own}
+use Rattle.mt_window.specs.declared.reply.Reply.{Reply}
 use Rattle.mt_gen.specs.declared.summary.Summary.{Summary}
 use Rattle.mt_gen.specs.Summary.{summary_of, with_entry}
 use Rattle.mt_replay.specs.Machine.{Machine, Step}
@@ -12,7 +14,12 @@ use Rattle.mt_replay.specs.Soak.{entries_of}
 
 -- the sums with the entries of one line more
 abbrev pub with_line : Summary → List Entry → Summary
-with_line s entries = record (fold with_entry s entries) { lines = s.lines + 1 }
+with_line s entries = fold with_entry (record s { lines = s.lines + 1 }) entries
+
+-- what a line enters by its log and its reply, where it has one
+abbrev pub entered : List Entry → Option Reply → List Entry
+entered log None = []
+entered log (Some reply) = log ++ Own reply ∷ []
 
 -- A line enters at most 257 entries. There is room for their sums.
 pub record HasRoom (s : Summary) : Type 0 where
