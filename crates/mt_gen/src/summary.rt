@@ -1,7 +1,7 @@
 //! What is added up over a replay.
 
-ghost use Rattle.std.specs.Prelude.{◌≡◌, ◌<◌, ◌+◌, ◌^◌, [], ℕ, List};
-ghost use Rattle.mt_gen.specs.Summary.{ran_of, served_of, summary_of, with_entry};
+ghost use Rattle.std.specs.Prelude.{◌≡◌, ◌<◌, ◌≤◌, ◌+◌, ◌-◌, ◌*◌, ◌^◌, [], ℕ, List, fold, length};
+ghost use Rattle.mt_gen.specs.Summary.{summary_of, with_entry};
 
 use mt_window::{Entry, Reply};
 
@@ -29,11 +29,13 @@ impl Summary {
         }
     }
 
-    /// Adds an entry.
-    pub fn add(&mut self, entry: &Entry)
-        requires ran { self.old.ran + ran_of entry.now < 2 ^ 64 }
-        requires served { self.old.served + served_of entry.now < 2 ^ 32 }
-        ensures { self.new ≡ with_entry self.old entry.now }
+    // Adds an entry, where there is room for any.
+    fn add(&mut self, entry: &Entry)
+        requires ran { self.old.ran + (2 ^ 32 - 1) < 2 ^ 64 }
+        requires served { self.old.served + 1 < 2 ^ 32 }
+        ensures sums { self.new ≡ with_entry self.old entry.now }
+        ensures ran { self.new.ran ≤ self.old.ran + (2 ^ 32 - 1) }
+        ensures served { self.new.served ≤ self.old.served + 1 }
     {
         match entry {
             Entry::Served { wait, .. } => {
@@ -44,6 +46,18 @@ impl Summary {
                 self.ran += u64::from(*accesses);
             }
             Entry::Inner(_) | Entry::Own(_) => {}
+        }
+    }
+    /// Adds some entries, one after another.
+    pub fn add_all(&mut self, entries: &[Entry])
+        requires ran { self.old.ran + length entries.now * (2 ^ 32 - 1) < 2 ^ 64 }
+        requires served { self.old.served + length entries.now < 2 ^ 32 }
+        ensures sums { self.new ≡ fold with_entry self.old entries.now }
+        ensures ran { self.new.ran ≤ self.old.ran + length entries.now * (2 ^ 32 - 1) }
+        ensures served { self.new.served ≤ self.old.served + length entries.now }
+    {
+        for entry in entries {
+            self.add(entry);
         }
     }
 }

@@ -1,7 +1,10 @@
 use super::*;
+use arrayvec::ArrayVec;
 use mt_conf::write_config;
 use mt_port::{MemSink, Source};
+use mt_text::{Line, push_line};
 use mt_window::{Entry, Refusal, Reply};
+use mt_word::Width;
 use std::test::Fail;
 
 /// The first lines of the script with the number 0.
@@ -71,19 +74,21 @@ fn the_whole_script_0(rt: HostRuntime) -> Result<(), Fail> {
 #[tactic(auto, unfolding(crate::specs::Summary::summary_of))]
 fn entries_are_added_up(rt: HostRuntime) {
     let mut summary = Summary::new();
-    summary.add(&Entry::Served {
-        number: 1,
-        at: 192,
-        wait: 92,
-    });
-    summary.add(&Entry::Inner(Reply::Refused(Refusal::Status)));
-    summary.add(&Entry::Served {
-        number: 2,
-        at: 192,
-        wait: 5,
-    });
-    summary.add(&Entry::Own(Reply::Ran(3072)));
-    summary.add(&Entry::Own(Reply::Ran(24)));
+    summary.add_all(&[
+        Entry::Served {
+            number: 1,
+            at: 192,
+            wait: 92,
+        },
+        Entry::Inner(Reply::Refused(Refusal::Status)),
+        Entry::Served {
+            number: 2,
+            at: 192,
+            wait: 5,
+        },
+        Entry::Own(Reply::Ran(3072)),
+        Entry::Own(Reply::Ran(24)),
+    ]);
     assert_eq!(rt;
         (summary.ran, summary.served, summary.longest),
         (3096, 2, 92)
@@ -133,5 +138,22 @@ fn the_configuration_has_this_text(rt: HostRuntime) -> Result<(), Fail> {
     let mut sink = MemSink::new(alloc, 1024, Vec::new(alloc))?;
     write_config(&config, &mut sink)?;
     assert_eq!(rt; sink.bytes(), CONFIG.as_bytes());
+    Ok(())
+}
+
+// The script is drawn line by line as its bytes are given.
+#[test]
+fn lines_are_those_of_the_source(rt: HostRuntime) -> Result<(), Fail> {
+    let mut source = GenSource::new(7);
+    let mut lines = ScriptLines::new(7);
+    let mut line = Line::new();
+    let mut text = ArrayVec::new();
+    for _ in 0..100 {
+        assert!(rt; lines.take(&mut line));
+        text.clear();
+        push_line(&mut text, &line, Width::W16);
+        assert!(rt; begins_with(&mut source, &text)?);
+        assert!(rt; begins_with(&mut source, b"\n")?);
+    }
     Ok(())
 }

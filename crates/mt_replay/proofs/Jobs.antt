@@ -13,7 +13,6 @@ use Rattle.mt_fault.specs.declared.fault.Fault.{Fault as MemoryFault}
 use Rattle.mt_blocks.specs.declared.config.ParamSet.{ParamSet}
 use Rattle.mt_text.specs.declared.line.Line.{Line}
 use Rattle.mt_conf.specs.declared.config.Config.{Config}
-use Rattle.mt_replay.specs.declared.form.Asked.{Asked}
 use Rattle.mt_replay.specs.declared.form.Form.{Form}
 use Rattle.mt_replay.specs.declared.form.Form.TheVariants as forms
 use Rattle.mt_replay.specs.declared.form.Task.{Task}
@@ -36,7 +35,7 @@ use Rattle.mt_replay.specs.Outcome.{Outcome, Play, configured, judged_job, steps
 use Rattle.mt_replay.specs.Changes.{Change, change, UsesBoard}
 use Rattle.mt_replay.specs.Inner.Runs.{outputs, place, Answered, EndsAt, BeginsWith, EndCaused}
 use Rattle.mt_replay.specs.Inner.Jobs.{Given, TellsRefusals, IsFound, HasBehind, FoundGives, Begins, BeginsEmpty, HeadFails, HasSet, IsTask, closing_of, task_end, BeginsAs, IsBegun, BeginFails}
-use Rattle.mt_replay.specs.Replay.{Outcomes, outcomes, asked_outcomes, BoardIs, Concluded, TakenGive, JobGives, StatusCaused, Told, Stood, Completes}
+use Rattle.mt_replay.specs.Replay.{Outcomes, outcomes, BoardIs, Concluded, TakenGive, JobGives, StatusCaused, Told, Stood, CompletesBy}
 use Rattle.mt_replay.proofs.Plays.{lines_text-append}
 
 -- what is left before and between, and between and after
@@ -399,21 +398,20 @@ told-at (Some xs) (Some ys) P bytes e p = (ys, subst (λ (l : List ℕ). P l ys)
     some-is : (xs bytes : List ℕ) → Some xs ≡ Some bytes → xs ≡ bytes
     some-is xs bytes e = cc
 
-not-risen : (k k' : ℕ) → Stood k k' → Rose k k' → ⊥
+pub not-risen : (k k' : ℕ) → Stood k k' → Rose k k' → ⊥
 not-risen k k' stood rose = omega (arith, stood.0, stood.1, rose)
 
 -- what was concluded is what the input gives
 concluded : (how : Status) (given : Outcomes) (old new : Board) (x : Change) (bytes : List ℕ) → x.left ≡ Some bytes → Concluded given how old new x → how ≡ (given Finished bytes).status
 concluded how given old new x bytes e c = sym c.status ∙ sym (ap (λ (o : Outcome). o.status) (told-at x.left x.left' _ bytes e c.is).1)
 
-pub completes : (result : Status) (asked : Asked) (defect : Option MemoryFault) (old new : Board) (source source' sink sink' : ℕ) (x : Change) → JobGives result (asked_outcomes asked defect) old new source source' x
-    → StatusCaused result source source' sink sink' → Completes (Some asked) result defect x.left source source' sink sink'
-completes status.Done asked defect old new k k' s s' x gives cause source sink bytes e = inl (concluded status.Done (asked_outcomes asked defect) old new x bytes e gives.0)
-completes (status.BadConfig code) asked defect old new k k' s s' x gives cause source sink bytes e = inl (concluded (status.BadConfig code) (asked_outcomes asked defect) old new x bytes e gives)
-completes (status.BadScript line code at) asked defect old new k k' s s' x gives cause source sink bytes e =
-    inl (concluded (status.BadScript line code at) (asked_outcomes asked defect) old new x bytes e gives)
-completes (status.Differs line) asked defect old new k k' s s' x gives cause source sink bytes e = inl (concluded (status.Differs line) (asked_outcomes asked defect) old new x bytes e gives)
-completes status.ReadFault asked defect old new k k' s s' x gives cause source sink bytes e = absurd (not-risen k k' source cause.0)
-completes status.WriteFault asked defect old new k k' s s' x gives cause source sink bytes e = absurd (not-risen s s' sink cause.0)
-completes status.NoMemory asked defect old new k k' s s' x gives cause source sink bytes e = inr refl
-completes status.Usage asked defect old new k k' s s' x gives cause source sink bytes e = absurd gives
+pub completes : (result : Status) (given : Outcomes) (old new : Board) (source source' sink sink' : ℕ) (x : Change) → JobGives result given old new source source' x
+    → StatusCaused result source source' sink sink' → CompletesBy given result x.left source source' sink sink'
+completes status.Done given old new k k' s s' x gives cause source sink bytes e = inl (concluded status.Done given old new x bytes e gives.0)
+completes (status.BadConfig code) given old new k k' s s' x gives cause source sink bytes e = inl (concluded (status.BadConfig code) given old new x bytes e gives)
+completes (status.BadScript line code at) given old new k k' s s' x gives cause source sink bytes e = inl (concluded (status.BadScript line code at) given old new x bytes e gives)
+completes (status.Differs line) given old new k k' s s' x gives cause source sink bytes e = inl (concluded (status.Differs line) given old new x bytes e gives)
+completes status.ReadFault given old new k k' s s' x gives cause source sink bytes e = absurd (not-risen k k' source cause.0)
+completes status.WriteFault given old new k k' s s' x gives cause source sink bytes e = absurd (not-risen s s' sink cause.0)
+completes status.NoMemory given old new k k' s s' x gives cause source sink bytes e = inr refl
+completes status.Usage given old new k k' s s' x gives cause source sink bytes e = absurd gives

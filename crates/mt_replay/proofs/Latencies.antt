@@ -1,7 +1,7 @@
 -- The requests of a replay are served in time.
 use Rattle.std.proofs.Common.{ℕ, ◌+◌, ◌≡◌, Bool, true, false, cond, List, [], ◌∷◌, ◌++◌, length, All, Option, Some, None, Result, Ok, Err, refl, sym, ap, ◌∙◌, arith, append-nil}
 use Rattle.std.specs.Prelude.{nat_lt, nat_le, is_some, IfOk}
-use Rattle.std.proofs.lemmas.List.Elements.{All-push, All-cons, filter-append}
+use Rattle.std.proofs.lemmas.List.Elements.{All-push, All-cons, All-head, All-tail, filter-append}
 use Rattle.mt_port.specs.declared.board.Shape.{Shape}
 use Rattle.mt_port.specs.declared.request.Request.{Request}
 use Rattle.mt_port.specs.Board.{Board, AreOrdered, injected}
@@ -18,6 +18,8 @@ use Rattle.mt_window.specs.declared.reply.Reply.TheVariants as replies
 use Rattle.mt_window.specs.declared.log.Entry.TheVariants.{Own}
 use Rattle.mt_window.specs.Events.{Running as Events, event as event_of, event_attempts}
 use Rattle.mt_window.specs.Waits.{IsFresh, is_service, services, IsShort, ServesInTime as CallServes}
+use Rattle.mt_gen.specs.Config.{job_config}
+use Rattle.mt_gen.specs.Script.{job_shape, script}
 use Rattle.mt_conf.specs.declared.config.Config.{Config}
 use Rattle.mt_conf.specs.declared.config.ConfigRefusal.{ConfigRefusal}
 use Rattle.mt_conf.specs.Outcome.{outcome as config_of}
@@ -40,8 +42,10 @@ use Rattle.mt_replay.specs.Machine.{Machine, with_ram, with_fls, events_of, fls_
 use Rattle.mt_replay.specs.Script.{script_from}
 use Rattle.mt_replay.specs.Outcome.{played, play_of, said, read_fault_text, bad_config, refused_of, configured, by_job, outcome}
 use Rattle.mt_replay.specs.Latency.{ServesInTime}
+use Rattle.mt_replay.specs.Soak.{soaked}
 use Rattle.mt_replay.specs.Replay.{AreServedInTime}
 use Rattle.mt_replay.proofs.Taken.{AreTaken, lines-taken}
+use Rattle.mt_replay.proofs.Soaks.{accepted_script}
 
 -- what is known of the running calls
 pub record RunningCalls : Type 0 where
@@ -133,8 +137,16 @@ job-short calls form Failed defect (Whole bytes) = of (nat_le 65542 (length byte
     of true = All-none
     of false = All-none
 
+accepted-short : RunningCalls → (m : Machine) (lines : List Line) → All (IsAccepted job_shape) lines → All ServesInTime (played m lines).steps
+accepted-short calls m [] h = All-none
+accepted-short calls m (line ∷ more) h =
+    let first = All-head (IsAccepted job_shape) line more h in
+    let rest = All-tail (IsAccepted job_shape) line more h in
+    All-cons ServesInTime (step m line) (played (step m line).after more).steps (step-short calls m line first.requests.ordered) (accepted-short calls (step m line).after more rest)
+
 pub are_served_in_time : RunningCalls → (asked : Option Asked) (defect : Option Fault) → AreServedInTime asked defect
-unfolding outcome
+unfolding outcome soaked
 are_served_in_time calls None defect = tt
 are_served_in_time calls (Some (asks.Job form)) defect = λ ending bytes. job-short calls form ending defect (job_of ending bytes)
 are_served_in_time calls (Some asks.Locate) defect = tt
+are_served_in_time calls (Some (asks.Soak number)) defect = accepted-short calls (started job_config defect) (script number) (accepted_script number)

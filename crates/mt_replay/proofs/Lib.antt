@@ -10,6 +10,8 @@ pub mod LocatedLines
 pub mod Turns
 pub mod Services
 pub mod Jobs
+pub mod Ups
+pub mod Soaks
 pub mod Latencies
 pub mod Accepted
 pub mod Feedless

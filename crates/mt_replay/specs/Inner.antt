@@ -6,3 +6,4 @@ pub mod Runs
 pub mod Jobs
 pub mod Locating
 pub mod Locates
+pub mod Soaks

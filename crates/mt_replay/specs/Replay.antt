@@ -21,6 +21,7 @@ use Rattle.mt_replay.specs.Outcome.{After, Outcome, outcome}
 use Rattle.mt_replay.specs.Changes.{Change, UsesBoard}
 use Rattle.mt_replay.specs.Latency.{ServesInTime}
 use Rattle.mt_replay.specs.Locate.{locating, LocatingIsExact}
+use Rattle.mt_replay.specs.Soak.{soaked}
 use Rattle.mt_replay.specs.Plain.{ReplaysLeaveNoTrace}
 use Rattle.mt_replay.specs.Memory.{ReplaysArePlain}
 use Rattle.mt_replay.specs.Detection.{PassesFindFaults}
@@ -37,6 +38,14 @@ form_named name =
     else (if bytes_eq name (codes "migrate") then Some (asks.Job forms.Migrate)
     else (if bytes_eq name (codes "locate") then Some asks.Locate else None))))
 
+-- what a word and a number ask for, if the word is `soak` and the number is spelled as those of script lines
+abbrev pub soak_of : Option ℕ → Option Asked
+soak_of (Some number) = Some (asks.Soak number)
+soak_of None = None
+
+abbrev pub soak_named : (name number : List ℕ) → Option Asked
+soak_named name number = if bytes_eq name (codes "soak") then soak_of (number_of number) else None
+
 -- what a word and three numbers ask for, if the word is `cut` and the numbers are spelled as those of script lines
 abbrev pub ask_of : Option ℕ → Option ℕ → Option ℕ → Option Asked
 ask_of (Some set) (Some budget) (Some wait) = Some (asks.Job (forms.Cut (record { set = set; budget = budget; wait = wait })))
@@ -49,7 +58,7 @@ ask_named name set budget wait = if bytes_eq name (codes "cut") then ask_of (num
 abbrev pub form_of : List (String Global) → Option Asked
 form_of [] = None
 form_of (word ∷ []) = form_named (string_bytes word)
-form_of (word ∷ set ∷ []) = None
+form_of (word ∷ number ∷ []) = soak_named (string_bytes word) (string_bytes number)
 form_of (word ∷ set ∷ budget ∷ []) = None
 form_of (word ∷ set ∷ budget ∷ wait ∷ []) = ask_named (string_bytes word) (string_bytes set) (string_bytes budget) (string_bytes wait)
 form_of (word ∷ set ∷ budget ∷ wait ∷ other ∷ words) = None
@@ -65,11 +74,6 @@ Outcomes = Ending → List ℕ → Outcome
 
 abbrev pub outcomes : Form → Option Fault → Outcomes
 outcomes form defect ending bytes = outcome form ending defect bytes
-
--- what is asked for
-abbrev pub asked_outcomes : Asked → Option Fault → Outcomes
-asked_outcomes (asks.Job form) defect = outcomes form defect
-asked_outcomes asks.Locate defect = locating
 
 -- The board is as the outcome says. Where a script was begun, its tape begins with the power-up.
 abbrev pub BoardIs : Option After → (old new : Board) → (tape tape' : Option (List Touch)) → Type 0
@@ -135,9 +139,26 @@ pub record Failing (text : List ℕ) (held held' : Option (List ℕ)) (sink sink
 abbrev pub Told : Status → (how : Status) → (text : List ℕ) → (held held' : Option (List ℕ)) → (sink sink' : ℕ) → Type 0
 Told result how text held held' sink sink' = ((result ≡ how) × Wrote text held held' sink sink') ⊎ ((result ≡ status.WriteFault) × Failing text held held' sink sink')
 
--- Words that are no form leave the source, and are told; a form does what it asks for with the job.
+-- Nothing was done, for want of memory.
+pub record Lacks (result : Status) (old new : Board) (sink sink' : ℕ) (x : Change) : Type 0 where
+  pub none : result ≡ status.NoMemory
+  pub written : x.held' ≡ x.held
+  pub same : sink' ≡ sink
+  pub board : new ≡ old
+  pub tape : x.tape' ≡ x.tape
+
+-- The generated job with a number was replayed, and its sums are told: whole, or the sink failed in them. Or no memory was found.
+abbrev pub SoakGives : Status → (number : ℕ) → Option Fault → (old new : Board) → (sink sink' : ℕ) → Change → Type 0
+SoakGives result number defect old new sink sink' x =
+    (Told result status.Done (soaked number defect).text x.held x.held' sink sink' × BoardIs (soaked number defect).after old new x.tape x.tape')
+    ⊎ Lacks result old new sink sink' x
+
+-- Words that are no form leave the source, and are told; a form does what it asks for with the job. The generated job is asked for without a source.
 abbrev pub Replays : Option Asked → Status → Option Fault → (old new : Board) → (source source' sink sink' : ℕ) → Change → Type 0
-Replays (Some asked) result defect old new source source' sink sink' x = JobGives result (asked_outcomes asked defect) old new source source' x
+Replays (Some (asks.Job form)) result defect old new source source' sink sink' x = JobGives result (outcomes form defect) old new source source' x
+Replays (Some asks.Locate) result defect old new source source' sink sink' x = JobGives result locating old new source source' x
+Replays (Some (asks.Soak number)) result defect old new source source' sink sink' x =
+    SoakGives result number defect old new sink sink' x × (source' ≡ source) × (x.left' ≡ x.left)
 Replays None result defect old new source source' sink sink' x = Told result status.Usage usage_text x.held x.held' sink sink' × (x.left' ≡ x.left)
 
 -- ---- what else holds
@@ -148,11 +169,12 @@ StatusCaused status.ReadFault source source' sink sink' = Rose source source' ×
 StatusCaused status.WriteFault source source' sink sink' = Rose sink sink' × ((source' ≡ source) ⊎ Rose source source')
 StatusCaused how source source' sink sink' = (source' ≡ source) × (sink' ≡ sink)
 
--- only a replay uses the board, whatever becomes of the other forms
+-- only replays use the board, whatever becomes of the other forms; its defect stays
 abbrev pub LeavesBoard : Option Asked → (old new : Board) → (tape tape' : Option (List Touch)) → Type 0
 LeavesBoard None old new tape tape' = (new ≡ old) × (tape' ≡ tape)
 LeavesBoard (Some (asks.Job form)) old new tape tape' = UsesBoard form old new tape tape'
 LeavesBoard (Some asks.Locate) old new tape tape' = (new ≡ old) × (tape' ≡ tape)
+LeavesBoard (Some (asks.Soak number)) old new tape tape' = new.defect ≡ old.defect
 
 -- the board is as before, or it was powered up: then nothing is held, and no request is left
 abbrev pub IsLeftFree : (old new : Board) → Type 0
@@ -163,17 +185,25 @@ abbrev pub Stood : ℕ → ℕ → Type 0
 Stood before now = (now ≡ before) × (before < 2 ^ 64 - 1)
 
 -- Where neither stream failed, the status is that which the input gives, or no memory was found.
+abbrev pub CompletesBy : Outcomes → Status → (left : Option (List ℕ)) → (source source' sink sink' : ℕ) → Type 0
+CompletesBy given result left source source' sink sink' =
+    Stood source source' → Stood sink sink' → (bytes : List ℕ) → left ≡ Some bytes
+    → (result ≡ (given Finished bytes).status) ⊎ (result ≡ status.NoMemory)
+
+-- the generated job needs no input
 abbrev pub Completes : Option Asked → Status → Option Fault → (left : Option (List ℕ)) → (source source' sink sink' : ℕ) → Type 0
 Completes None result defect left source source' sink sink' = Unit {0}
-Completes (Some asked) result defect left source source' sink sink' =
-    Stood source source' → Stood sink sink' → (bytes : List ℕ) → left ≡ Some bytes
-    → (result ≡ (asked_outcomes asked defect Finished bytes).status) ⊎ (result ≡ status.NoMemory)
+Completes (Some (asks.Job form)) result defect left source source' sink sink' = CompletesBy (outcomes form defect) result left source source' sink sink'
+Completes (Some asks.Locate) result defect left source source' sink sink' = CompletesBy locating result left source source' sink sink'
+Completes (Some (asks.Soak number)) result defect left source source' sink sink' =
+    Stood sink sink' → (result ≡ (soaked number defect).status) ⊎ (result ≡ status.NoMemory)
 
--- Whatever bytes a job has, the requests of each step are served in time.
+-- Whatever bytes a job has, the requests of each step are served in time; and so are those of the generated jobs.
 abbrev pub AreServedInTime : Option Asked → Option Fault → Type 0
 AreServedInTime None defect = Unit {0}
 AreServedInTime (Some (asks.Job form)) defect = (ending : Ending) (bytes : List ℕ) → All ServesInTime (outcome form ending defect bytes).steps
 AreServedInTime (Some asks.Locate) defect = Unit {0}
+AreServedInTime (Some (asks.Soak number)) defect = All ServesInTime (soaked number defect).steps
 
 -- On sound memory no test of a replay touches a word of the application; where no block is destructive, the application finds a plain memory.
 abbrev pub LeavesNoTrace : Option Asked → Option Fault → Type 0

@@ -23,11 +23,13 @@ pub enum Form {
     Cut(Ask),
 }
 
-/// What the words ask for: a form that takes a script, or the faults that explain what was missed in a slice.
+/// What the words ask for: a form that takes a script; the faults that explain what was missed in a slice; or the sums of a
+/// replay of the generated script with a number.
 #[derive(Clone, Copy, Debug, PartialEq, Eq)]
 pub enum Asked {
     Job(Form),
     Locate,
+    Soak(u32),
 }
 
 /// How the lines of a script are taken: the form, the shape of the memory for which they are read, and for `cut` the set

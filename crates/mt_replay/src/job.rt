@@ -100,9 +100,13 @@ pub(crate) fn find<S: Source>(
     }
 }
 
-// Powers the board up for a job. Answers the modules as they begin.
+/// Powers the board up for a job. Answers the modules as they begin.
 #[tactic(auto, unfolding(mt_port::specs::Board::powered_up))]
-fn power_up<B: Bench>(alloc: Global, config: Config, board: &mut B) -> Result<Modules, NoMemory>
+pub(crate) fn power_up<B: Bench>(
+    alloc: Global,
+    config: Config,
+    board: &mut B,
+) -> Result<Modules, NoMemory>
     requires { IsAcceptedConfig config }
     ensures ok { IfOk result (λ modules. machine (B.state board.new) modules ≡ started config
         (B.state board.old).defect) }

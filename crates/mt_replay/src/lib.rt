@@ -13,6 +13,7 @@ mod locating;
 mod modules;
 mod refused;
 mod run;
+mod soak;
 mod status;
 mod text;
 mod top;

@@ -2,12 +2,13 @@
 
 ghost use Rattle.std.specs.Prelude.{◌≡◌};
 ghost use Rattle.mt_replay.specs.Changes.{change};
-ghost use Rattle.mt_replay.specs.Replay.{form_named, ask_of, ask_named, form_of, Replays, StatusCaused, LeavesBoard, IsLeftFree, Completes, AreServedInTime, LeavesNoTrace, ListsWhatExplains, TellsLeastTicks, FindsFaults};
+ghost use Rattle.mt_replay.specs.Replay.{form_named, soak_of, soak_named, ask_of, ask_named, form_of, Replays, StatusCaused, LeavesBoard, IsLeftFree, Completes, AreServedInTime, LeavesNoTrace, ListsWhatExplains, TellsLeastTicks, FindsFaults};
 
 use crate::form::{Ask, Asked, Form};
 use crate::job::{replay_job, tell};
 use crate::laws::passes_find_faults;
 use crate::locate::locate_job;
+use crate::soak::soak_job;
 use crate::status::Status;
 use mt_conf::accepted_is_taken;
 use mt_cut::longest_runs_are_least;
@@ -46,6 +47,23 @@ fn form_named(word: &[u8]) -> Option<Asked>
     None
 }
 
+// The script with a number, where it is one.
+fn soak_of(number: Option<u32>) -> Option<Asked>
+    ensures { result ≡ soak_of number }
+{
+    Some(Asked::Soak(number?))
+}
+
+// What a word and a number ask for.
+fn soak_named(word: &[u8], number: &[u8]) -> Option<Asked>
+    ensures { result ≡ soak_named word.now number.now }
+{
+    if word == b"soak".as_slice() {
+        return soak_of(number_of(number));
+    }
+    None
+}
+
 // A set, a budget and a wait, where all three are numbers.
 fn ask_of(set: Option<u32>, budget: Option<u32>, wait: Option<u32>) -> Option<Asked>
     ensures { result ≡ ask_of set budget wait }
@@ -72,6 +90,7 @@ fn form_of(words: &[String]) -> Option<Asked>
 {
     match words {
         [word] => form_named(word.as_bytes()),
+        [word, number] => soak_named(word.as_bytes(), number.as_bytes()),
         [word, set, budget, wait] => ask_named(
             word.as_bytes(),
             set.as_bytes(),
@@ -87,8 +106,9 @@ fn form_of(words: &[String]) -> Option<Asked>
 /// in canonical form, without a closing line; `migrate` does so with a configuration of version 2; `cut S T L` reads a job
 /// and writes the fewest ticks in which a pass over its set S may be cut with at most T accesses per tick, and the greatest
 /// slice for which no request waits longer than L accesses; `locate` reads a configuration, a slice and what was missed
-/// there, and writes the single faults that explain it. All other words answer `Usage`. Memory is taken before the
-/// first byte is written.
+/// there, and writes the single faults that explain it; `soak N` reads nothing, replays the generated script with the
+/// number N on the board, and writes its sums. All other words answer `Usage`. Memory is taken before the first byte is
+/// written.
 pub fn replay<S: Source, K: Sink, B: Bench>(
     alloc: Global,
     words: &[String],
@@ -145,6 +165,7 @@ pub fn replay<S: Source, K: Sink, B: Bench>(
     match form_of(words) {
         Some(Asked::Job(form)) => replay_job(alloc, form, source, sink, board),
         Some(Asked::Locate) => locate_job(alloc, source, sink),
+        Some(Asked::Soak(number)) => soak_job(alloc, number, sink, board),
         None => tell(sink, b"usage\n", Status::Usage),
     }
 }
