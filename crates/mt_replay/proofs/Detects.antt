@@ -206,3 +206,4 @@ finds_faults law (Some (asks.Job forms.Format)) defect = tt
 finds_faults law (Some (asks.Job forms.Migrate)) defect = tt
 finds_faults law (Some (asks.Job (forms.Cut ask))) defect = tt
 finds_faults law (Some asks.Locate) defect = tt
+finds_faults law (Some (asks.Soak number)) defect = tt

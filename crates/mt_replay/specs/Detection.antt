@@ -54,13 +54,12 @@ AcceptsOwn line s c = (line.event ≡ event.Ram c) × (own_replies s.entries ≡
 
 -- ---- an undisturbed pass
 
--- A line that leaves a pass undisturbed: it doesn't heal the memory, no Stop, DeInit or Init is accepted in it, and where it is a tick of
--- RamTst no Suspend.
+-- A line that leaves a pass undisturbed: it doesn't heal the memory, no Stop and no DeInit is accepted in it, and where it is a tick of RamTst no
+-- Suspend.
 pub record IsUndisturbing (line : Line) (s : Step) : Type 0 where
   pub kept : line.event ≢ event.Heal
   pub stop : AcceptsOwn line s call.Stop → ⊥
   pub de_init : AcceptsOwn line s call.DeInit → ⊥
-  pub init : AcceptsOwn line s call.Init → ⊥
   pub stop_in_handler : AcceptsInHandler s handler.RamStop → ⊥
   pub suspend_in_tick : line.event ≡ event.TickRam → AcceptsInHandler s handler.RamSuspend → ⊥
 

@@ -1,6 +1,8 @@
 //! The top call.
 
-ghost use Rattle.std.specs.Prelude.{◌≡◌};
+ghost use Rattle.std.specs.Prelude.{◌≡◌, Option, Some};
+ghost use Rattle.mt_fault.specs.declared.fault.Fault.{Fault as MemoryFault};
+ghost use Rattle.mt_replay.specs.declared.form.Asked.{Asked};
 ghost use Rattle.mt_replay.specs.Changes.{change};
 ghost use Rattle.mt_replay.specs.Replay.{form_named, soak_of, soak_named, ask_of, ask_named, form_of, Replays, StatusCaused, LeavesBoard, IsLeftFree, Completes, AreServedInTime, LeavesNoTrace, ListsWhatExplains, TellsLeastTicks, FindsFaults};
 
@@ -101,6 +103,58 @@ fn form_of(words: &[String]) -> Option<Asked>
     }
 }
 
+// What holds of every call, by what it asks for.
+fn promise()
+    ensures latency { (asked : Option Asked) (defect : Option MemoryFault) → AreServedInTime asked defect }
+    ensures transparent { (asked : Option Asked) (defect : Option MemoryFault) → LeavesNoTrace asked defect }
+    ensures exact { (asked : Option Asked) → ListsWhatExplains asked }
+    ensures least { (asked : Option Asked) (defect : Option MemoryFault) → TellsLeastTicks asked defect }
+    ensures detects { (asked : Option Asked) (defect : Option MemoryFault) → FindsFaults asked defect }
+{
+    // No cut under a budget has fewer ticks than the longest runs.
+    longest_runs_are_least();
+    faults_of_the_slice_are_listed();
+    explaining_is_tested();
+    faults_are_listed_once();
+    ram_waits();
+    fls_waits();
+    // On sound memory tests leave no trace.
+    accepted_is_taken();
+    attempts_on_sound_memory();
+    tests_leave_no_trace();
+    services_leave_setting();
+    running_calls_leave_setting();
+    ram_keeps_the_board();
+    fls_keeps_the_board();
+    passes_find_faults();
+}
+
+// Does what is asked for.
+fn answer<S: Source, K: Sink, B: Bench>(
+    alloc: Global,
+    asked: Asked,
+    source: &mut S,
+    sink: &mut K,
+    board: &mut B,
+) -> Status
+    ensures gives { Replays (Some asked) result (B.state board.old).defect (B.state board.old)
+        (B.state board.new) (S.faults source.old) (S.faults source.new) (K.faults sink.old) (K.faults sink.new)
+        (change (S.left source.old) (S.left source.new)
+        (K.held sink.old) (K.held sink.new) (B.tape board.old) (B.tape board.new)) }
+    ensures cause { StatusCaused result (S.faults source.old) (S.faults source.new) (K.faults sink.old)
+        (K.faults sink.new) }
+    ensures board { LeavesBoard (Some asked) (B.state board.old) (B.state board.new) (B.tape board.old) (B.tape board.new) }
+    ensures free { IsLeftFree (B.state board.old) (B.state board.new) }
+    ensures complete { Completes (Some asked) result (B.state board.old).defect (S.left source.old)
+        (S.faults source.old) (S.faults source.new) (K.faults sink.old) (K.faults sink.new) }
+{
+    match asked {
+        Asked::Job(form) => replay_job(alloc, form, source, sink, board),
+        Asked::Locate => locate_job(alloc, source, sink),
+        Asked::Soak(number) => soak_job(alloc, number, sink, board),
+    }
+}
+
 /// Does what the words after the program's name ask for: `run` reads a job from the source, replays it on the board and
 /// writes its trace to the sink; `check` reads a job and writes the closing line alone; `fmt` reads a job and writes it
 /// in canonical form, without a closing line; `migrate` does so with a configuration of version 2; `cut S T L` reads a job
@@ -134,8 +188,8 @@ pub fn replay<S: Source, K: Sink, B: Bench>(
     ensures latency { AreServedInTime (form_of words.now) (B.state board.old).defect }
     // Whatever bytes the job has, where the board has no fault at the start and no line injects one, its replay comes to the
     // same where no test touches a word of the application, but that each sequence that has ended leaves the fill of a
-    // destructive block: the same answers, waits and results, and the same words after each line. Where no block is
-    // destructive, each answer of the application is that of a plain memory on which its operations are done in script order.
+    // destructive block: the same answers, waits and results, and the same words after each line. Each answer of the
+    // application is that of a plain memory on which its operations are done in script order, with such fills between them.
     ensures transparent { LeavesNoTrace (form_of words.now) (B.state board.old).defect }
     // Whatever bytes the input has, `locate` lists a fault exactly where it lies inside the slice and explains what was missed
     // there, and each once.
@@ -146,26 +200,9 @@ pub fn replay<S: Source, K: Sink, B: Bench>(
     // block of its slice is NOT_OK behind it.
     ensures detects { FindsFaults (form_of words.now) (B.state board.old).defect }
 {
-    // No cut under a budget has fewer ticks than the longest runs.
-    longest_runs_are_least();
-    faults_of_the_slice_are_listed();
-    explaining_is_tested();
-    faults_are_listed_once();
-    ram_waits();
-    fls_waits();
-    // On sound memory tests leave no trace.
-    accepted_is_taken();
-    attempts_on_sound_memory();
-    tests_leave_no_trace();
-    services_leave_setting();
-    running_calls_leave_setting();
-    ram_keeps_the_board();
-    fls_keeps_the_board();
-    passes_find_faults();
+    promise();
     match form_of(words) {
-        Some(Asked::Job(form)) => replay_job(alloc, form, source, sink, board),
-        Some(Asked::Locate) => locate_job(alloc, source, sink),
-        Some(Asked::Soak(number)) => soak_job(alloc, number, sink, board),
+        Some(asked) => answer(alloc, asked, source, sink, board),
         None => tell(sink, b"usage\n", Status::Usage),
     }
 }
