@@ -5,7 +5,6 @@ ghost use Rattle.mt_text.specs.Accepted.{IsAccepted as IsAcceptedLine};
 ghost use Rattle.mt_ram.specs.Results.{overall};
 ghost use Rattle.mt_gen.specs.Script.{job_shape, script};
 ghost use Rattle.mt_replay.specs.Machine.{machine, step, IsReady};
-ghost use Rattle.mt_replay.specs.Changes.{change};
 ghost use Rattle.mt_replay.specs.Inner.Runs.{outputs};
 ghost use Rattle.mt_replay.specs.Inner.Soaks.{entered, with_line, HasRoom, IsLittleMore, Adds, Sums};
 ghost use Rattle.mt_replay.specs.Replay.{SoakGives, IsLeftFree};
