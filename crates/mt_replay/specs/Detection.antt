@@ -1,5 +1,5 @@
 -- Detection: a pass that runs undisturbed over a fault that its algorithm catches makes the fault's block NOT_OK.
-use Rattle.std.specs.Prelude.{ℕ, ◌+◌, ◌-◌, ◌≡◌, ◌≢◌, ◌≤◌, ◌×◌, List, [], ◌∷◌, ◌++◌, length, zip, Contains, Option, Some, Ok, nat_lt, if◌then◌else◌, slice_get}
+use Rattle.std.specs.Prelude.{ℕ, ◌+◌, ◌-◌, ◌≡◌, ◌≢◌, ◌≤◌, List, [], ◌∷◌, ◌++◌, length, zip, Contains, Option, Some, Ok, nat_lt, if◌then◌else◌, slice_get}
 use Rattle.mt_port.specs.declared.request.HandlerCall.{HandlerCall}
 use Rattle.mt_port.specs.declared.request.HandlerCall.TheVariants as handler
 use Rattle.mt_port.specs.declared.request.HandlerOp.{HandlerOp}
@@ -86,9 +86,9 @@ ticks_of r = ticks r.cells (pass (set_of r).atomic (spans_of (set_of r).blocks))
 -- and at least as many ticks test something as the pass takes.
 pub record IsUndisturbedPass (fault : Fault) (m : Machine) (lines : List Line) : Type 0 where
   pub begins : m.modules.ram.state ≡ Running start
-  pub fault : m.board.fault ≡ Some fault
-  pub lines : AreUndisturbing lines (played m lines).steps
-  pub ticks : ticks_of m.modules.ram ≤ counted lines (played m lines).steps
+  pub there : m.board.fault ≡ Some fault
+  pub undisturbed : AreUndisturbing lines (played m lines).steps
+  pub whole : ticks_of m.modules.ram ≤ counted lines (played m lines).steps
 
 -- ---- a replay
 

@@ -16,14 +16,14 @@ pub returns-in-Some-clause-ok : goal.returns-in-Some-clause-ok
 returns-in-Some-clause-ok g c =
     let m : Machine = machine (g.B.Port.state c.args.board.now) c.args.modules.now in
     let m' : Machine = machine (g.B.Port.state c.perform.new.board) c.perform.new.modules in
-    let steps = subst (λ (l : List Entry). Steps m m' c.args.desk.now.line (l ++ Own c.in-Some.reply ∷ []) (g.B.Port.tape c.args.board.now) (g.B.Port.tape c.perform.new.board)) (sym c.entries.ensures) c.in-Some.ensures.gives in
+    let steps = subst (λ (l : List Entry). Steps m m' c.args.desk.now.line (l ++ Own c.in-Some.reply ∷ []) (g.B.Port.tape c.args.board.now) (g.B.Port.tape c.perform.new.board)) (sym c.entries.ensures.entries) c.in-Some.ensures.gives in
     on_ok_weaker c.write_answer.result (λ ok. played_line c.args.shape m m' c.args.number c.args.desk.now.line _ _ steps ok) c.write_answer.ensures.ok
 
 pub returns-in-Some-clause-err : goal.returns-in-Some-clause-err
 returns-in-Some-clause-err g c =
     let m : Machine = machine (g.B.Port.state c.args.board.now) c.args.modules.now in
     let m' : Machine = machine (g.B.Port.state c.perform.new.board) c.perform.new.modules in
-    let steps = subst (λ (l : List Entry). Steps m m' c.args.desk.now.line (l ++ Own c.in-Some.reply ∷ []) (g.B.Port.tape c.args.board.now) (g.B.Port.tape c.perform.new.board)) (sym c.entries.ensures) c.in-Some.ensures.gives in
+    let steps = subst (λ (l : List Entry). Steps m m' c.args.desk.now.line (l ++ Own c.in-Some.reply ∷ []) (g.B.Port.tape c.args.board.now) (g.B.Port.tape c.perform.new.board)) (sym c.entries.ensures.entries) c.in-Some.ensures.gives in
     on_err_weaker c.write_answer.result (λ front. played_front c.args.shape m m' c.args.number c.args.desk.now.line _ _ _ _ _ steps front) c.write_answer.ensures.err
 
 pub returns-in-None-clause-board : goal.returns-in-None-clause-board
