@@ -21,3 +21,6 @@ pub mod Plain
 pub mod Memories
 pub mod PlainMemories
 pub mod Locates
+pub mod ClaimedLines
+pub mod Comparisons
+pub mod Traces

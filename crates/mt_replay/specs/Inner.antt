@@ -6,3 +6,6 @@ pub mod Runs
 pub mod Jobs
 pub mod Locating
 pub mod Locates
+pub mod Verifying
+pub mod Comparing
+pub mod Replaying

@@ -1,6 +1,7 @@
 //! Replays, checks and formats a job: bytes in, bytes out.
 #![tactic(auto)]
 
+mod comparing;
 mod cut;
 mod event;
 mod form;
@@ -12,10 +13,12 @@ mod locate;
 mod locating;
 mod modules;
 mod refused;
+mod replaying;
 mod run;
 mod status;
 mod text;
 mod top;
+mod verifying;
 
 pub use laws::{formatting_keeps_outcomes, migrating_keeps_outcomes, traces_are_of_steps};
 pub use status::{Status, exit_number};

@@ -1,0 +1,115 @@
+//! Replays a kept script, and compares its trace with a given text.
+
+ghost use Rattle.std.specs.Prelude.{◌≡◌, ◌≤◌, ◌<◌, ◌+◌, ◌++◌, ◌∷◌, [], length};
+ghost use Rattle.std.specs.Io.KnownBytes.{prepend_known};
+ghost use Rattle.mt_verify.specs.Lines.{feed_limit};
+ghost use Rattle.mt_text.specs.Accepted.{IsAccepted as IsAcceptedLine};
+ghost use Rattle.mt_text.specs.Trace.{entries_text};
+ghost use Rattle.mt_replay.specs.Machine.{machine, IsReady};
+ghost use Rattle.mt_replay.specs.Changes.{UsesBoard};
+ghost use Rattle.mt_replay.specs.Inner.Comparing.{Compares, KeepsCause};
+ghost use Rattle.mt_replay.specs.Inner.Replaying.{Played};
+
+use crate::comparing::Comparison;
+use crate::event::perform;
+use crate::form::Form;
+use crate::input::{Input, LineText};
+use crate::modules::Modules;
+use mt_fls::running_calls_keep_the_board as fls_keeps_the_board;
+use mt_port::{Bench, Shape, Source};
+use mt_ram::running_calls_keep_the_board as ram_keeps_the_board;
+use mt_text::{Line, entry_text};
+use mt_window::{Entry, EventLog, Reply};
+use mt_word::Width;
+
+/// Room for what is read and made of a kept line. It is made once a job, and each line finds it as the line before left it.
+#[derive(Drop)]
+pub(crate) struct Sheet {
+    text: LineText,
+    line: Line,
+    log: EventLog,
+}
+
+// Compares the trace lines of some entries.
+fn compare_entries<S: Source>(
+    comparison: &mut Comparison,
+    input: &mut Input,
+    source: &mut S,
+    entries: &[Entry],
+    width: Width,
+    number: u32,
+)
+    requires few { comparison.old.tally + length entries.now < feed_limit }
+    ensures compares { Compares comparison.old comparison.new (entries_text width number entries.now)
+        (prepend_known input.old (S.left source.old)) (prepend_known input.new (S.left source.new)) }
+    ensures cause { KeepsCause comparison.old comparison.new (S.faults source.old) (S.faults source.new) }
+    ensures few { comparison.new.tally ≤ comparison.old.tally + length entries.now }
+{
+    for entry in entries {
+        comparison.compare(input, source, &entry_text(number, entry, width));
+    }
+}
+
+// Compares what was entered in the log, and then the line's own reply.
+fn compare_answer<S: Source>(
+    comparison: &mut Comparison,
+    input: &mut Input,
+    source: &mut S,
+    log: &[Entry],
+    reply: Reply,
+    width: Width,
+    number: u32,
+)
+    requires few { comparison.old.tally + (length log.now + 1) < feed_limit }
+    ensures compares { Compares comparison.old comparison.new
+        (entries_text width number (log.now ++ Entry.Own reply ∷ []))
+        (prepend_known input.old (S.left source.old)) (prepend_known input.new (S.left source.new)) }
+    ensures cause { KeepsCause comparison.old comparison.new (S.faults source.old) (S.faults source.new) }
+    ensures few { comparison.new.tally ≤ comparison.old.tally + (length log.now + 1) }
+{
+    compare_entries(comparison, input, source, log, width, number);
+    comparison.compare(
+        input,
+        source,
+        &entry_text(number, &Entry::Own(reply), width),
+    );
+}
+
+// Does what an accepted line asks for, and compares its entries.
+fn play_line<S: Source, B: Bench>(
+    shape: Shape,
+    modules: &mut Modules,
+    board: &mut B,
+    comparison: &mut Comparison,
+    input: &mut Input,
+    source: &mut S,
+    sheet: &mut Sheet,
+    number: u32,
+)
+    requires ready { IsReady shape (machine (B.state board.old) modules.old) }
+    requires line { IsAcceptedLine shape sheet.old.line }
+    requires few { comparison.old.tally + 257 < feed_limit }
+    ensures ready { IsReady shape (machine (B.state board.new) modules.new) }
+    ensures board { UsesBoard Form.Run (B.state board.old) (B.state board.new) (B.tape board.old) (B.tape board.new) }
+    ensures plays { Played shape number (machine (B.state board.old) modules.old) (machine (B.state board.new) modules.new)
+        (sheet.old.line ∷ []) comparison.old comparison.new (prepend_known input.old (S.left source.old))
+        (prepend_known input.new (S.left source.new)) (B.tape board.old) (B.tape board.new) }
+    ensures cause { KeepsCause comparison.old comparison.new (S.faults source.old) (S.faults source.new) }
+    ensures few { comparison.new.tally ≤ comparison.old.tally + 257 }
+{
+    ram_keeps_the_board();
+    fls_keeps_the_board();
+    sheet.log.clear();
+    match perform(modules, board, &mut sheet.line, &mut sheet.log) {
+        None => {}
+        Some(reply) => compare_answer(
+            comparison,
+            input,
+            source,
+            sheet.log.entries(),
+            reply,
+            shape.width,
+            number,
+        ),
+    }
+}
