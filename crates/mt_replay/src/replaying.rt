@@ -15,6 +15,7 @@ use crate::event::perform;
 use crate::form::Form;
 use crate::input::{Input, LineText};
 use crate::modules::Modules;
+use arrayvec::ArrayVec;
 use mt_fls::running_calls_keep_the_board as fls_keeps_the_board;
 use mt_port::{Bench, Shape, Source};
 use mt_ram::running_calls_keep_the_board as ram_keeps_the_board;
@@ -25,9 +26,20 @@ use mt_word::Width;
 /// Room for what is read and made of a kept line. It is made once a job, and each line finds it as the line before left it.
 #[derive(Drop)]
 pub(crate) struct Sheet {
-    text: LineText,
-    line: Line,
+    pub text: LineText,
+    pub line: Line,
     log: EventLog,
+}
+
+impl Sheet {
+    /// An empty one.
+    pub(crate) fn new() -> Sheet {
+        Sheet {
+            text: ArrayVec::new(),
+            line: Line::new(),
+            log: EventLog::new(),
+        }
+    }
 }
 
 // Compares the trace lines of some entries.
@@ -75,8 +87,8 @@ fn compare_answer<S: Source>(
     );
 }
 
-// Does what an accepted line asks for, and compares its entries.
-fn play_line<S: Source, B: Bench>(
+/// Does what an accepted line asks for, and compares its entries.
+pub(crate) fn play_line<S: Source, B: Bench>(
     shape: Shape,
     modules: &mut Modules,
     board: &mut B,

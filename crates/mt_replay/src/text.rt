@@ -1,6 +1,7 @@
 //! The lines that close a trace.
 
 ghost use Rattle.std.specs.Prelude.{◌≡◌, codes, ◌++◌};
+ghost use Rattle.std.specs.Fmt.{decimal};
 ghost use Rattle.mt_replay.specs.Locate.{count_text};
 ghost use Rattle.mt_replay.specs.Outcome.{done_text, refused_text, bad_config_text};
 
@@ -44,6 +45,28 @@ pub fn found_line(count: u32) -> Text
     let mut text = ArrayVec::new();
     push_bytes(&mut text, b"found ");
     push_number(&mut text, count);
+    push_bytes(&mut text, b"\n");
+    text
+}
+
+/// The line of a trace that is the expected one, and has so many lines.
+pub fn same_line(count: u32) -> Text
+    ensures { result.items ≡ codes "same " ++ decimal count ++ codes "\n" }
+{
+    let mut text = ArrayVec::new();
+    push_bytes(&mut text, b"same ");
+    push_number(&mut text, count);
+    push_bytes(&mut text, b"\n");
+    text
+}
+
+/// The line of a trace that is another one from this line on.
+pub fn differs_line(line: u32) -> Text
+    ensures { result.items ≡ codes "differs " ++ decimal line ++ codes "\n" }
+{
+    let mut text = ArrayVec::new();
+    push_bytes(&mut text, b"differs ");
+    push_number(&mut text, line);
     push_bytes(&mut text, b"\n");
     text
 }
