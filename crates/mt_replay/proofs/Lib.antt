@@ -36,3 +36,6 @@ pub mod SoundBoards
 pub mod PassLines
 pub mod PassSteps
 pub mod Detects
+pub mod ClaimedLines
+pub mod Comparisons
+pub mod Traces

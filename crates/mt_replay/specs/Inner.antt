@@ -7,3 +7,6 @@ pub mod Jobs
 pub mod Locating
 pub mod Locates
 pub mod Soaks
+pub mod Verifying
+pub mod Comparing
+pub mod Replaying

@@ -85,15 +85,15 @@ impl Input {
         Ok(self.count > 0)
     }
 
-    // The bytes that are held.
-    fn held(&self) -> &[u8]
+    /// The bytes that are held.
+    pub(crate) fn held(&self) -> &[u8]
         ensures { result.now ≡ self.now }
     {
         &self.bytes[self.next..self.count]
     }
 
-    // Takes bytes at the front of those that are held.
-    fn skip(&mut self, count: usize)
+    /// Takes bytes at the front of those that are held.
+    pub(crate) fn skip(&mut self, count: usize)
         requires { count ≤ length self.old }
         ensures { self.new ≡ drop count self.old }
     {
@@ -110,8 +110,8 @@ impl Input {
         byte
     }
 
-    // Moves the held bytes of the line to its text, and takes its line feed.
-    fn take_piece(&mut self, text: &mut LineText) -> Piece
+    /// Moves the held bytes of the line to its text, and takes its line feed.
+    pub(crate) fn take_piece(&mut self, text: &mut LineText) -> Piece
         ensures { TakesPiece result text.old.items self.old text.new.items self.new }
     {
         let held = self.held();

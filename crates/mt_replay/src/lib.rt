@@ -1,6 +1,7 @@
 //! Replays, checks and formats a job: bytes in, bytes out.
 #![tactic(auto)]
 
+mod comparing;
 mod cut;
 mod event;
 mod form;
@@ -12,11 +13,13 @@ mod locate;
 mod locating;
 mod modules;
 mod refused;
+mod replaying;
 mod run;
 mod soak;
 mod status;
 mod text;
 mod top;
+mod verifying;
 
 pub use laws::{
     formatting_keeps_outcomes, migrating_keeps_outcomes, passes_find_faults, traces_are_of_steps,

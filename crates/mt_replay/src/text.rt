@@ -53,6 +53,28 @@ pub fn found_line(count: u32) -> Text
     text
 }
 
+/// The line of a trace that is the expected one, and has so many lines.
+pub fn same_line(count: u32) -> Text
+    ensures { result.items ≡ codes "same " ++ decimal count ++ codes "\n" }
+{
+    let mut text = ArrayVec::new();
+    push_bytes(&mut text, b"same ");
+    push_number(&mut text, count);
+    push_bytes(&mut text, b"\n");
+    text
+}
+
+/// The line of a trace that is another one from this line on.
+pub fn differs_line(line: u32) -> Text
+    ensures { result.items ≡ codes "differs " ++ decimal line ++ codes "\n" }
+{
+    let mut text = ArrayVec::new();
+    push_bytes(&mut text, b"differs ");
+    push_number(&mut text, line);
+    push_bytes(&mut text, b"\n");
+    text
+}
+
 // The line of a refused rule.
 fn rule_text(code: u8) -> Text
     ensures { result.items ≡ bad_config_text (Refused.Rule code) }
