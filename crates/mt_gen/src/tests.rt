@@ -153,7 +153,6 @@ fn lines_are_those_of_the_source(rt: HostRuntime) -> Result<(), Fail> {
         text.clear();
         push_line(&mut text, &line, Width::W16);
         assert!(rt; begins_with(&mut source, &text)?);
-        assert!(rt; begins_with(&mut source, b"\n")?);
     }
     Ok(())
 }
