@@ -60,6 +60,7 @@ fn compare_entries<S: Source>(
     ensures compares { Compares comparison.old comparison.new (entries_text width number entries.now)
         (prepend_known input.old (S.left source.old)) (prepend_known input.new (S.left source.new)) }
     ensures cause { KeepsCause comparison.old comparison.new (S.faults source.old) (S.faults source.new) }
+    ensures drained { IsDrained comparison.old input.old → IsDrained comparison.new input.new }
     ensures few { comparison.new.tally ≤ comparison.old.tally + length entries.now }
 {
     for entry in entries {
@@ -82,6 +83,7 @@ fn compare_answer<S: Source>(
         (entries_text width number (log.now ++ Entry.Own reply ∷ []))
         (prepend_known input.old (S.left source.old)) (prepend_known input.new (S.left source.new)) }
     ensures cause { KeepsCause comparison.old comparison.new (S.faults source.old) (S.faults source.new) }
+    ensures drained { IsDrained comparison.old input.old → IsDrained comparison.new input.new }
     ensures few { comparison.new.tally ≤ comparison.old.tally + (length log.now + 1) }
 {
     compare_entries(comparison, input, source, log, width, number);
@@ -112,6 +114,7 @@ pub(crate) fn play_line<S: Source, B: Bench>(
         (sheet.old.line ∷ []) comparison.old comparison.new (prepend_known input.old (S.left source.old))
         (prepend_known input.new (S.left source.new)) (B.tape board.old) (B.tape board.new) }
     ensures cause { KeepsCause comparison.old comparison.new (S.faults source.old) (S.faults source.new) }
+    ensures drained { IsDrained comparison.old input.old → IsDrained comparison.new input.new }
     ensures few { comparison.new.tally ≤ comparison.old.tally + 257 }
 {
     ram_keeps_the_board();
