@@ -125,7 +125,7 @@ last-is : (shape : Shape) (n : ℕ) (text : List ℕ) → 0 < length text → la
 last-is shape n [] h = absurd (omega arith)
 last-is shape n (byte ∷ bytes) h = refl
 
-last-from : (shape : Shape) (n : ℕ) (text before after : List ℕ) → TakesBytes line.Last text before after → script_from shape Finished n (cut before) ≡ judged shape n text (ended (end.Whole n))
+pub last-from : (shape : Shape) (n : ℕ) (text before after : List ℕ) → TakesBytes line.Last text before after → script_from shape Finished n (cut before) ≡ judged shape n text (ended (end.Whole n))
 last-from shape n text before after h =
     ap (λ (bytes : List ℕ). script_from shape Finished n (cut bytes)) h.0 ∙ ap (script_from shape Finished n) (cut-rest text h.1) ∙ last-is shape n text h.2
 

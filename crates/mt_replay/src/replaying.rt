@@ -7,12 +7,13 @@ ghost use Rattle.mt_replay.specs.Script.{script_from};
 ghost use Rattle.mt_replay.specs.Verify.{whole_script};
 ghost use Rattle.std.specs.Io.KnownBytes.{prepend_known};
 ghost use Rattle.mt_verify.specs.Lines.{feed_limit};
+ghost use Rattle.mt_port.specs.Memory.{plain_left};
 ghost use Rattle.mt_text.specs.Accepted.{IsAccepted as IsAcceptedLine};
 ghost use Rattle.mt_text.specs.Trace.{entries_text};
 ghost use Rattle.mt_replay.specs.Machine.{machine, IsReady};
 ghost use Rattle.mt_replay.specs.Changes.{UsesBoard};
 ghost use Rattle.mt_replay.specs.Inner.Comparing.{Compares, KeepsCause, IsDrained};
-ghost use Rattle.mt_replay.specs.Inner.Replaying.{Played, IsScript, PlayedWhole};
+ghost use Rattle.mt_replay.specs.Inner.Replaying.{Played, IsScript, PlayedWhole, HasLine, TakesFirst};
 
 use crate::comparing::Comparison;
 use crate::event::perform;
@@ -60,6 +61,7 @@ fn compare_entries<S: Source>(
     ensures compares { Compares comparison.old comparison.new (entries_text width number entries.now)
         (prepend_known input.old (S.left source.old)) (prepend_known input.new (S.left source.new)) }
     ensures cause { KeepsCause comparison.old comparison.new (S.faults source.old) (S.faults source.new) }
+    ensures drained { IsDrained comparison.old input.old → IsDrained comparison.new input.new }
     ensures few { comparison.new.tally ≤ comparison.old.tally + length entries.now }
 {
     for entry in entries {
@@ -82,6 +84,7 @@ fn compare_answer<S: Source>(
         (entries_text width number (log.now ++ Entry.Own reply ∷ []))
         (prepend_known input.old (S.left source.old)) (prepend_known input.new (S.left source.new)) }
     ensures cause { KeepsCause comparison.old comparison.new (S.faults source.old) (S.faults source.new) }
+    ensures drained { IsDrained comparison.old input.old → IsDrained comparison.new input.new }
     ensures few { comparison.new.tally ≤ comparison.old.tally + (length log.now + 1) }
 {
     compare_entries(comparison, input, source, log, width, number);
@@ -112,6 +115,7 @@ pub(crate) fn play_line<S: Source, B: Bench>(
         (sheet.old.line ∷ []) comparison.old comparison.new (prepend_known input.old (S.left source.old))
         (prepend_known input.new (S.left source.new)) (B.tape board.old) (B.tape board.new) }
     ensures cause { KeepsCause comparison.old comparison.new (S.faults source.old) (S.faults source.new) }
+    ensures drained { IsDrained comparison.old input.old → IsDrained comparison.new input.new }
     ensures few { comparison.new.tally ≤ comparison.old.tally + 257 }
 {
     ram_keeps_the_board();
@@ -128,6 +132,26 @@ pub(crate) fn play_line<S: Source, B: Bench>(
             shape.width,
             number,
         ),
+    }
+}
+
+// Takes the next line of a kept script, which there is.
+fn take_line(script: &mut PlainSource, lines: &mut Input, sheet: &mut Sheet, shape: Shape)
+    requires { HasLine shape (lines.old ++ plain_left script.old) }
+    ensures accepted { IsAcceptedLine shape sheet.new.line }
+    ensures takes { TakesFirst shape sheet.new.line (lines.old ++ plain_left script.old)
+        (lines.new ++ plain_left script.new) }
+{
+    sheet.text.clear();
+    match lines.read_line(script, &mut sheet.text) {
+        Ok(_) => {}
+        // The script is in memory.
+        Err(_) => unreachable!(),
+    }
+    match sheet.line.read(&sheet.text, shape) {
+        Ok(()) => {}
+        // Each line of the script is accepted.
+        Err(_) => unreachable!(),
     }
 }
 
@@ -159,19 +183,10 @@ pub(crate) fn replay_lines<S: Source, B: Bench>(
     let mut lines = Input::new();
     let mut sheet = Sheet::new();
     for number in 1..=count {
-        sheet.text.clear();
-        match lines.read_line(&mut script, &mut sheet.text) {
-            Ok(_) => {}
-            // The script is in memory.
-            Err(_) => unreachable!(),
-        }
-        match sheet.line.read(&sheet.text, shape) {
-            Ok(()) => play_line(
-                shape, modules, board, comparison, input, source, &mut sheet, number,
-            ),
-            // Each line of the script is accepted.
-            Err(_) => unreachable!(),
-        }
+        take_line(&mut script, &mut lines, &mut sheet, shape);
+        play_line(
+            shape, modules, board, comparison, input, source, &mut sheet, number,
+        );
     }
     comparison.compare(input, source, &done_text(count));
 }

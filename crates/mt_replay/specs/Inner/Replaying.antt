@@ -1,5 +1,5 @@
 -- What the calls do that replay a kept script and compare its trace.
-use Rattle.std.specs.Prelude.{ℕ, ◌≡◌, List, ◌++◌, length, Option}
+use Rattle.std.specs.Prelude.{ℕ, ◌+◌, ◌≡◌, List, [], ◌∷◌, ◌++◌, length, Option}
 use Rattle.mt_port.specs.Board.{Logs}
 use Rattle.mt_port.specs.declared.board.Shape.{Shape}
 use Rattle.mt_port.specs.declared.board.Touch.{Touch}
@@ -8,7 +8,7 @@ use Rattle.mt_replay.specs.declared.comparing.Comparison.{Comparison}
 use Rattle.mt_replay.specs.declared.form.Form.TheVariants as forms
 use Rattle.mt_replay.specs.Machine.{Machine}
 use Rattle.mt_replay.specs.Input.{Finished, cut}
-use Rattle.mt_replay.specs.Script.{script_from}
+use Rattle.mt_replay.specs.Script.{Script, led_by, script_from}
 use Rattle.mt_replay.specs.Verify.{whole_script}
 use Rattle.mt_replay.specs.Outcome.{played, steps_touches, steps_text, done_text}
 use Rattle.mt_replay.specs.Inner.Comparing.{Compares}
@@ -30,3 +30,16 @@ pub record PlayedWhole (shape : Shape) (lines : List Line) (m m' : Machine) (old
   pub compares : Compares old new (steps_text shape 1 (played m lines).steps ++ done_text (length lines)) left left'
   pub taped : Logs tape tape' (steps_touches (played m lines).steps)
   pub after : m' ≡ (played m lines).after
+
+-- Some bytes begin with a line of a script.
+pub record HasLine (shape : Shape) (bytes : List ℕ) : Type 0 where
+  pub number : ℕ
+  pub first : Line
+  pub more : Script
+  pub script : script_from shape Finished number (cut bytes) ≡ led_by (first ∷ []) more
+
+-- This line was taken, the first of a script whatever its number, and what is left is the script behind it.
+abbrev pub TakesFirst : Shape → Line → (before after : List ℕ) → Type 0
+TakesFirst shape line before after =
+    (number : ℕ) (first : Line) (more : Script) → script_from shape Finished number (cut before) ≡ led_by (first ∷ []) more
+    → (line ≡ first) × (script_from shape Finished (number + 1) (cut after) ≡ more)

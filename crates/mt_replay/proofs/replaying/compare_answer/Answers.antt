@@ -18,6 +18,9 @@ returns-clause-compares g c =
 pub returns-clause-cause : goal.returns-clause-cause
 returns-clause-cause g c = λ first h. c.compare.ensures.caused first (c.compare_entries.ensures.cause first h)
 
+pub returns-clause-drained : goal.returns-clause-drained
+returns-clause-drained g c = λ h. c.compare.ensures.drained (c.compare_entries.ensures.drained h)
+
 pub returns-clause-few : goal.returns-clause-few
 returns-clause-few g c =
     let few = c.compare_entries.ensures.few in

@@ -5,7 +5,7 @@ use Rattle.mt_replay.proofs.Traces.{so_far_none, so_far_next, so_far_all, entry_
 use Rattle.mt_replay.proofs.replaying.compare_entries.Goals as goal
 
 pub loop-entry-init : goal.loop-entry-init
-loop-entry-init g c = record { so = so_far_none c.args.width c.args.number c.args.entries.now c.args.comparison.now _; cause = λ first h. h; few = omega arith }
+loop-entry-init g c = record { so = so_far_none c.args.width c.args.number c.args.entries.now c.args.comparison.now _; cause = λ first h. h; drained = λ h. h; few = omega arith }
 
 pub compare-requires-clause-few : goal.compare-requires-clause-few
 compare-requires-clause-few g c =
@@ -26,6 +26,7 @@ loop-entry-preserved g c =
       so = so_far_next c.args.width c.args.number all (drop (k + 1) all) (drop k all) _ c.deref.result.now _ _ _ _ _ _ (drop_more all k _ c.loop-entry-test.true) (c.deref.ensures.0 ∙ c.entry_text.ensures)
           inv.so c.compare.ensures.stands;
       cause = λ first h. c.compare.ensures.caused first (inv.cause first h);
+      drained = λ h. c.compare.ensures.drained (inv.drained h);
       few = omega (arith, few, more, one);
     }
 
