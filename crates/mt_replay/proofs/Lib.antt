@@ -39,3 +39,4 @@ pub mod Detects
 pub mod ClaimedLines
 pub mod Comparisons
 pub mod Traces
+pub mod Verifies
