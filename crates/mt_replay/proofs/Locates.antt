@@ -190,4 +190,5 @@ pub lists_what_explains : FaultsOfTheSliceAreListed → ExplainsIsTested → Fau
 lists_what_explains listed tested once None = tt
 lists_what_explains listed tested once (Some (asks.Job form)) = tt
 lists_what_explains listed tested once (Some asks.Locate) = locating-exact listed tested once
+lists_what_explains listed tested once (Some asks.Verify) = tt
 lists_what_explains listed tested once (Some (asks.Soak number)) = tt
