@@ -47,4 +47,5 @@ tells_least_ticks under least (Some (asks.Job forms.Format)) defect = tt
 tells_least_ticks under least (Some (asks.Job forms.Migrate)) defect = tt
 tells_least_ticks under least (Some (asks.Job (forms.Cut ask))) defect = ticks_are_least under least ask defect
 tells_least_ticks under least (Some asks.Locate) defect = tt
+tells_least_ticks under least (Some asks.Verify) defect = tt
 tells_least_ticks under least (Some (asks.Soak number)) defect = tt

@@ -206,4 +206,5 @@ finds_faults law (Some (asks.Job forms.Format)) defect = tt
 finds_faults law (Some (asks.Job forms.Migrate)) defect = tt
 finds_faults law (Some (asks.Job (forms.Cut ask))) defect = tt
 finds_faults law (Some asks.Locate) defect = tt
+finds_faults law (Some asks.Verify) defect = tt
 finds_faults law (Some (asks.Soak number)) defect = tt

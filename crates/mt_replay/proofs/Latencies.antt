@@ -149,4 +149,5 @@ unfolding outcome soaked
 are_served_in_time calls None defect = tt
 are_served_in_time calls (Some (asks.Job form)) defect = λ ending bytes. job-short calls form ending defect (job_of ending bytes)
 are_served_in_time calls (Some asks.Locate) defect = tt
+are_served_in_time calls (Some asks.Verify) defect = tt
 are_served_in_time calls (Some (asks.Soak number)) defect = accepted-short calls (started job_config defect) (script number) (accepted_script number)

@@ -40,3 +40,4 @@ pub mod ClaimedLines
 pub mod Comparisons
 pub mod Traces
 pub mod Replays
+pub mod Verifies

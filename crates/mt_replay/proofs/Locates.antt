@@ -29,7 +29,7 @@ use Rattle.mt_locate.specs.Explanations.{Explains}
 use Rattle.mt_locate.specs.Listed.{faults_of, explains, explaining, FaultsOfTheSliceAreListed, FaultsAreListedOnce, ExplainsIsTested}
 use Rattle.mt_conf.specs.Outcome.{outcome as config_of}
 use Rattle.mt_conf.specs.declared.config.ConfigRefusal.{ConfigRefusal}
-use Rattle.mt_replay.specs.Outcome.{Outcome, bad_config, judged_job}
+use Rattle.mt_replay.specs.Outcome.{Outcome, said, bad_config, judged_job}
 use Rattle.mt_replay.specs.Changes.{change}
 use Rattle.mt_replay.specs.Inner.Jobs.{Begins, BeginsEmpty}
 use Rattle.mt_replay.specs.Inner.Locating.{Reader, IsAll, EndsBy, LocatedGives, EndCause, StopCause}
@@ -81,28 +81,28 @@ empty_at c held a left p = told_behind a held left _ p (λ x z t. locating-is Fi
 
 -- ---- how it is told
 
-pub stop_job : (e : End) (result : Status) (shape : Shape) (board : Board) (tape : Option (List Touch)) (a left h h' : Option (List ℕ)) (source source' sink sink' : ℕ)
-    → WhereTold a left (GivesAt e locating (lines_give shape (Err e))) → EndCause e source source' → Told result (stop_status e) (stop_text e) h h' sink sink'
-    → JobGives result locating board board source source' (change a left h h' tape tape)
-stop_job (end.Whole count) result shape board tape a left h h' source source' sink sink' is cause told = absurd cause
-stop_job (end.Refused line code at) result shape board tape a left h h' source source' sink sink' is cause (inl t) =
-    subst (λ (s : Status). JobGives s locating board board source source' (change a left h h' tape tape)) (sym t.0)
-    (whole_job (end.Refused line code at) locating (lines_give shape (Err (end.Refused line code at))) board board source source' a left h h' tape tape refl is t.1.written (refl, refl))
-stop_job (end.Refused line code at) result shape board tape a left h h' source source' sink sink' is cause (inr t) =
-    subst (λ (s : Status). JobGives s locating board board source source' (change a left h h' tape tape)) (sym t.0)
-    (cut_job (end.Refused line code at) locating (lines_give shape (Err (end.Refused line code at))) board board source source' a left h h' tape tape is cause t.1.written)
-stop_job end.Broken result shape board tape a left h h' source source' sink sink' is cause (inl t) =
-    subst (λ (s : Status). JobGives s locating board board source source' (change a left h h' tape tape)) (sym t.0)
-    (whole_job end.Broken locating (lines_give shape (Err end.Broken)) board board source source' a left h h' tape tape refl is t.1.written (refl, refl))
-stop_job end.Broken result shape board tape a left h h' source source' sink sink' is cause (inr t) =
-    subst (λ (s : Status). JobGives s locating board board source source' (change a left h h' tape tape)) (sym t.0)
-    (cut_job end.Broken locating (lines_give shape (Err end.Broken)) board board source source' a left h h' tape tape is cause t.1.written)
+pub stop_job : (e : End) (result : Status) (given : Outcomes) (board : Board) (tape : Option (List Touch)) (a left h h' : Option (List ℕ)) (source source' sink sink' : ℕ)
+    → WhereTold a left (GivesAt e given (said (stop_text e) (stop_status e))) → EndCause e source source' → Told result (stop_status e) (stop_text e) h h' sink sink'
+    → JobGives result given board board source source' (change a left h h' tape tape)
+stop_job (end.Whole count) result given board tape a left h h' source source' sink sink' is cause told = absurd cause
+stop_job (end.Refused line code at) result given board tape a left h h' source source' sink sink' is cause (inl t) =
+    subst (λ (s : Status). JobGives s given board board source source' (change a left h h' tape tape)) (sym t.0)
+    (whole_job (end.Refused line code at) given (said (stop_text (end.Refused line code at)) (stop_status (end.Refused line code at))) board board source source' a left h h' tape tape refl is t.1.written (refl, refl))
+stop_job (end.Refused line code at) result given board tape a left h h' source source' sink sink' is cause (inr t) =
+    subst (λ (s : Status). JobGives s given board board source source' (change a left h h' tape tape)) (sym t.0)
+    (cut_job (end.Refused line code at) given (said (stop_text (end.Refused line code at)) (stop_status (end.Refused line code at))) board board source source' a left h h' tape tape is cause t.1.written)
+stop_job end.Broken result given board tape a left h h' source source' sink sink' is cause (inl t) =
+    subst (λ (s : Status). JobGives s given board board source source' (change a left h h' tape tape)) (sym t.0)
+    (whole_job end.Broken given (said (stop_text end.Broken) (stop_status end.Broken)) board board source source' a left h h' tape tape refl is t.1.written (refl, refl))
+stop_job end.Broken result given board tape a left h h' source source' sink sink' is cause (inr t) =
+    subst (λ (s : Status). JobGives s given board board source source' (change a left h h' tape tape)) (sym t.0)
+    (cut_job end.Broken given (said (stop_text end.Broken) (stop_status end.Broken)) board board source source' a left h h' tape tape is cause t.1.written)
 
 -- nothing was told, for want of memory
-pub none_job : (result : Status) (board : Board) (tape : Option (List Touch)) (a left h h' : Option (List ℕ)) (source source' sink sink' : ℕ)
-    → HasNone result h h' sink sink' → JobGives result locating board board source source' (change a left h h' tape tape)
-none_job result board tape a left h h' source source' sink sink' n =
-    subst (λ (s : Status). JobGives s locating board board source source' (change a left h h' tape tape)) (sym n.none) (n.same, refl, refl)
+pub none_job : (result : Status) (given : Outcomes) (board : Board) (tape : Option (List Touch)) (a left h h' : Option (List ℕ)) (source source' sink sink' : ℕ)
+    → HasNone result h h' sink sink' → JobGives result given board board source source' (change a left h h' tape tape)
+none_job result given board tape a left h h' source source' sink sink' n =
+    subst (λ (s : Status). JobGives s given board board source source' (change a left h h' tape tape)) (sym n.none) (n.same, refl, refl)
 
 pub list_job : (result : Status) (shape : Shape) (l : Located) (board : Board) (tape : Option (List Touch)) (a left h h' : Option (List ℕ)) (source source' sink sink' : ℕ)
     → WhereTold a left (GivesAt (end.Whole 0) locating (lines_give shape (Ok l))) → source' ≡ source → ListTold shape l result h h' sink sink'
@@ -113,7 +113,7 @@ list_job result shape l board tape a left h h' source source' sink sink' is same
 list_job result shape l board tape a left h h' source source' sink sink' is same (inl (inr t)) =
     subst (λ (s : Status). JobGives s locating board board source source' (change a left h h' tape tape)) (sym t.0)
     (cut_job (end.Whole 0) locating (lines_give shape (Ok l)) board board source source' a left h h' tape tape is same t.1.written)
-list_job result shape l board tape a left h h' source source' sink sink' is same (inr n) = none_job result board tape a left h h' source source' sink sink' n
+list_job result shape l board tape a left h h' source source' sink sink' is same (inr n) = none_job result locating board tape a left h h' source source' sink sink' n
 
 -- ---- causes
 
@@ -143,8 +143,8 @@ pub stopped_gives : (s : Stop) (c : Config) (misses : List _) (result : Status) 
     → (s ≡ stop.Ended end.Broken → held ≡ []) → WhereTold a b (Begins c) → WhereTold b (prepend_known held left) (LocatedGives (Err s) (reader_of c) misses) → StopCause s source source'
     → StopTold s result h h' sink sink' → JobGives result locating board board source source' (change a left h h' tape tape)
 stopped_gives (stop.Ended e) c misses result board tape held a b left h h' source source' sink sink' none p q cause told =
-    stop_job e result c.shape board tape a left h h' source source' sink sink' (stop_at e c held a b left (λ is. none (ap stop.Ended is)) p q) cause told
-stopped_gives stop.NoMemory c misses result board tape held a b left h h' source source' sink sink' none p q cause told = none_job result board tape a left h h' source source' sink sink' told
+    stop_job e result locating board tape a left h h' source source' sink sink' (stop_at e c held a b left (λ is. none (ap stop.Ended is)) p q) cause told
+stopped_gives stop.NoMemory c misses result board tape held a b left h h' source source' sink sink' none p q cause told = none_job result locating board tape a left h h' source source' sink sink' told
 
 -- ---- exactness
 
@@ -190,4 +190,5 @@ pub lists_what_explains : FaultsOfTheSliceAreListed → ExplainsIsTested → Fau
 lists_what_explains listed tested once None = tt
 lists_what_explains listed tested once (Some (asks.Job form)) = tt
 lists_what_explains listed tested once (Some asks.Locate) = locating-exact listed tested once
+lists_what_explains listed tested once (Some asks.Verify) = tt
 lists_what_explains listed tested once (Some (asks.Soak number)) = tt

@@ -377,4 +377,5 @@ leaves_no_trace known attempts accepted (Some (asks.Job forms.Format)) defect = 
 leaves_no_trace known attempts accepted (Some (asks.Job forms.Migrate)) defect = tt
 leaves_no_trace known attempts accepted (Some (asks.Job (forms.Cut ask))) defect = tt
 leaves_no_trace known attempts accepted (Some asks.Locate) defect = tt
+leaves_no_trace known attempts accepted (Some asks.Verify) defect = tt
 leaves_no_trace known attempts accepted (Some (asks.Soak number)) defect = tt

@@ -10,3 +10,4 @@ pub mod Soaks
 pub mod Verifying
 pub mod Comparing
 pub mod Replaying
+pub mod Verifies

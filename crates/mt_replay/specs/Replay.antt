@@ -21,6 +21,7 @@ use Rattle.mt_replay.specs.Outcome.{After, Outcome, outcome}
 use Rattle.mt_replay.specs.Changes.{Change, UsesBoard}
 use Rattle.mt_replay.specs.Latency.{ServesInTime}
 use Rattle.mt_replay.specs.Locate.{locating, LocatingIsExact}
+use Rattle.mt_replay.specs.Verify.{verifying}
 use Rattle.mt_replay.specs.Soak.{soaked}
 use Rattle.mt_replay.specs.Plain.{ReplaysLeaveNoTrace}
 use Rattle.mt_replay.specs.Memory.{ReplaysArePlain}
@@ -36,7 +37,8 @@ form_named name =
     else (if bytes_eq name (codes "check") then Some (asks.Job forms.Check)
     else (if bytes_eq name (codes "fmt") then Some (asks.Job forms.Format)
     else (if bytes_eq name (codes "migrate") then Some (asks.Job forms.Migrate)
-    else (if bytes_eq name (codes "locate") then Some asks.Locate else None))))
+    else (if bytes_eq name (codes "locate") then Some asks.Locate
+    else (if bytes_eq name (codes "verify") then Some asks.Verify else None)))))
 
 -- what a word and a number ask for, if the word is `soak` and the number is spelled as those of script lines
 abbrev pub soak_of : Option ℕ → Option Asked
@@ -157,6 +159,7 @@ SoakGives result number defect old new sink sink' x =
 abbrev pub Replays : Option Asked → Status → Option Fault → (old new : Board) → (source source' sink sink' : ℕ) → Change → Type 0
 Replays (Some (asks.Job form)) result defect old new source source' sink sink' x = JobGives result (outcomes form defect) old new source source' x
 Replays (Some asks.Locate) result defect old new source source' sink sink' x = JobGives result locating old new source source' x
+Replays (Some asks.Verify) result defect old new source source' sink sink' x = JobGives result (verifying defect) old new source source' x
 Replays (Some (asks.Soak number)) result defect old new source source' sink sink' x =
     SoakGives result number defect old new sink sink' x × (source' ≡ source) × (x.left' ≡ x.left)
 Replays None result defect old new source source' sink sink' x = Told result status.Usage usage_text x.held x.held' sink sink' × (x.left' ≡ x.left)
@@ -174,6 +177,7 @@ abbrev pub LeavesBoard : Option Asked → (old new : Board) → (tape tape' : Op
 LeavesBoard None old new tape tape' = (new ≡ old) × (tape' ≡ tape)
 LeavesBoard (Some (asks.Job form)) old new tape tape' = UsesBoard form old new tape tape'
 LeavesBoard (Some asks.Locate) old new tape tape' = (new ≡ old) × (tape' ≡ tape)
+LeavesBoard (Some asks.Verify) old new tape tape' = new.defect ≡ old.defect
 LeavesBoard (Some (asks.Soak number)) old new tape tape' = new.defect ≡ old.defect
 
 -- the board is as before, or it was powered up: then nothing is held, and no request is left
@@ -195,6 +199,7 @@ abbrev pub Completes : Option Asked → Status → Option Fault → (left : Opti
 Completes None result defect left source source' sink sink' = Unit {0}
 Completes (Some (asks.Job form)) result defect left source source' sink sink' = CompletesBy (outcomes form defect) result left source source' sink sink'
 Completes (Some asks.Locate) result defect left source source' sink sink' = CompletesBy locating result left source source' sink sink'
+Completes (Some asks.Verify) result defect left source source' sink sink' = CompletesBy (verifying defect) result left source source' sink sink'
 Completes (Some (asks.Soak number)) result defect left source source' sink sink' =
     Stood sink sink' → (result ≡ (soaked number defect).status) ⊎ (result ≡ status.NoMemory)
 
@@ -203,6 +208,7 @@ abbrev pub AreServedInTime : Option Asked → Option Fault → Type 0
 AreServedInTime None defect = Unit {0}
 AreServedInTime (Some (asks.Job form)) defect = (ending : Ending) (bytes : List ℕ) → All ServesInTime (outcome form ending defect bytes).steps
 AreServedInTime (Some asks.Locate) defect = Unit {0}
+AreServedInTime (Some asks.Verify) defect = Unit {0}
 AreServedInTime (Some (asks.Soak number)) defect = All ServesInTime (soaked number defect).steps
 
 -- On sound memory no test of a replay touches a word of the application; where no block is destructive, the application finds a plain memory.

@@ -23,12 +23,13 @@ pub enum Form {
     Cut(Ask),
 }
 
-/// What the words ask for: a form that takes a script; the faults that explain what was missed in a slice; or the sums of a
-/// replay of the generated script with a number.
+/// What the words ask for: a form that takes a script; the faults that explain what was missed in a slice; whether a text is
+/// the trace of a script; or the sums of a replay of the generated script with a number.
 #[derive(Clone, Copy, Debug, PartialEq, Eq)]
 pub enum Asked {
     Job(Form),
     Locate,
+    Verify,
     Soak(u32),
 }
 

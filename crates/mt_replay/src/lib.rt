@@ -19,6 +19,7 @@ mod soak;
 mod status;
 mod text;
 mod top;
+mod verify;
 mod verifying;
 
 pub use laws::{

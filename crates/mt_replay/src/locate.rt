@@ -27,8 +27,8 @@ use mt_locate::{Miss, Probe, list_faults, scratch};
 use mt_port::{Failed, Shape, Sink, Source, put};
 use std::alloc::Global;
 
-// Writes how the lines end where one is refused, or the source failed. No lines end so that are whole.
-fn tell_end<K: Sink>(sink: &mut K, end: End) -> Status
+/// Writes how the lines end where one is refused, or the source failed. No lines end so that are whole.
+pub(crate) fn tell_end<K: Sink>(sink: &mut K, end: End) -> Status
     ensures { Told result (stop_status end) (stop_text end) (K.held sink.old) (K.held sink.new) (K.faults sink.old)
         (K.faults sink.new) }
 {
@@ -43,8 +43,8 @@ fn tell_end<K: Sink>(sink: &mut K, end: End) -> Status
     }
 }
 
-// Writes why not all lines are taken.
-fn tell_stop<K: Sink>(sink: &mut K, stop: Stop) -> Status
+/// Writes why not all lines are taken.
+pub(crate) fn tell_stop<K: Sink>(sink: &mut K, stop: Stop) -> Status
     ensures { StopTold stop result (K.held sink.old) (K.held sink.new) (K.faults sink.old) (K.faults sink.new) }
 {
     match stop {

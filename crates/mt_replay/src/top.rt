@@ -12,6 +12,7 @@ use crate::laws::passes_find_faults;
 use crate::locate::locate_job;
 use crate::soak::soak_job;
 use crate::status::Status;
+use crate::verify::verify_job;
 use mt_conf::accepted_is_taken;
 use mt_cut::longest_runs_are_least;
 use mt_fls::{
@@ -45,6 +46,9 @@ fn form_named(word: &[u8]) -> Option<Asked>
     }
     if word == b"locate".as_slice() {
         return Some(Asked::Locate);
+    }
+    if word == b"verify".as_slice() {
+        return Some(Asked::Verify);
     }
     None
 }
@@ -151,6 +155,7 @@ fn answer<S: Source, K: Sink, B: Bench>(
     match asked {
         Asked::Job(form) => replay_job(alloc, form, source, sink, board),
         Asked::Locate => locate_job(alloc, source, sink),
+        Asked::Verify => verify_job(alloc, source, sink, board),
         Asked::Soak(number) => soak_job(alloc, number, sink, board),
     }
 }
@@ -160,8 +165,9 @@ fn answer<S: Source, K: Sink, B: Bench>(
 /// in canonical form, without a closing line; `migrate` does so with a configuration of version 2; `cut S T L` reads a job
 /// and writes the fewest ticks in which a pass over its set S may be cut with at most T accesses per tick, and the greatest
 /// slice for which no request waits longer than L accesses; `locate` reads a configuration, a slice and what was missed
-/// there, and writes the single faults that explain it; `soak N` reads nothing, replays the generated script with the
-/// number N on the board, and writes its sums. All other words answer `Usage`. Memory is taken before the first byte is
+/// there, and writes the single faults that explain it; `verify` reads a configuration, a script and a text, replays the
+/// script on the board, and writes whether the text is its trace; `soak N` reads nothing, replays the generated script with
+/// the number N on the board, and writes its sums. All other words answer `Usage`. Memory is taken before the first byte is
 /// written.
 pub fn replay<S: Source, K: Sink, B: Bench>(
     alloc: Global,

@@ -3,6 +3,7 @@ use Rattle.mt_replay.specs.declared.form.Asked.{Asked}
 use Rattle.mt_replay.specs.declared.form.Asked.TheVariants as asks
 use Rattle.mt_replay.specs.Replay.{outcomes, Completes}
 use Rattle.mt_replay.specs.Locate.{locating}
+use Rattle.mt_replay.specs.Verify.{verifying}
 use Rattle.mt_replay.proofs.Jobs.{completes}
 use Rattle.mt_replay.proofs.Soaks.{soak_caused, soak_completes}
 use Rattle.mt_replay.proofs.top.answer.Goals as goal
@@ -21,6 +22,13 @@ returns-in-Locate-clause-complete g c =
     subst (λ (asked : Asked). Completes (Some asked) c.locate_job.result board.defect (g.S.Source.left c.args.source.now) (g.S.Source.faults c.args.source.now) (g.S.Source.faults c.locate_job.new.source) (g.K.Sink.faults c.args.sink.now) (g.K.Sink.faults c.locate_job.new.sink))
     (sym c.in-Locate.is)
     (completes c.locate_job.result locating board board _ _ _ _ _ (located.gives board (g.B.Port.tape c.args.board.now)) located.cause)
+
+pub returns-in-Verify-clause-complete : goal.returns-in-Verify-clause-complete
+returns-in-Verify-clause-complete g c =
+    let job = c.verify_job.ensures in
+    subst (λ (asked : Asked). Completes (Some asked) c.verify_job.result (g.B.Port.state c.args.board.now).defect (g.S.Source.left c.args.source.now) (g.S.Source.faults c.args.source.now) (g.S.Source.faults c.verify_job.new.source) (g.K.Sink.faults c.args.sink.now) (g.K.Sink.faults c.verify_job.new.sink))
+    (sym c.in-Verify.is)
+    (completes c.verify_job.result (verifying (g.B.Port.state c.args.board.now).defect) _ _ _ _ _ _ _ job.gives job.cause)
 
 pub returns-in-Soak-clause-complete : goal.returns-in-Soak-clause-complete
 returns-in-Soak-clause-complete g c =
