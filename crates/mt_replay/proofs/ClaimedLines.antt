@@ -1,8 +1,8 @@
 -- Lines of a script with a trace behind it, one after another.
-use Rattle.std.proofs.Common.{ℕ, ◌+◌, ◌-◌, ◌<◌, ◌≤◌, ◌≡◌, ◌≢◌, Bool, true, false, cond, ◌&&◌, List, [], ◌∷◌, ◌++◌, length, take, Option, Some, None, Result, Ok, Err, inl, inr, refl, lit≤, sym, ap, subst, ◌∙◌, arith, append_assoc, append-nil, length-append}
+use Rattle.std.proofs.Common.{ℕ, ◌+◌, ◌-◌, ◌<◌, ◌≤◌, ◌≡◌, Bool, true, false, cond, List, [], ◌∷◌, ◌++◌, length, take, Option, Some, None, Result, Ok, Err, inl, inr, refl, sym, ap, subst, ◌∙◌, arith, append_assoc, append-nil, length-append}
 use Rattle.std.specs.Prelude.{nat_lt, nat_le}
 use Rattle.std.specs.Str.{bytes_eq}
-use Rattle.std.proofs.lemmas.Bool.{le-ltb, lt-ltb, le-leb, lt-leb, false≢true, true≢false, cases_eq, cases_lt, and_left, and_right, false_from_ne_true}
+use Rattle.std.proofs.lemmas.Bool.{le-ltb, lt-ltb, le-leb, lt-leb, false≢true, cases_eq, cases_lt, and_left, and_right, false_from_ne_true}
 use Rattle.std.proofs.lemmas.List.{take-append-le, take_all}
 use Rattle.std.proofs.lemmas.Slice.Eq.{bytes_eq-Decides}
 use Rattle.std.specs.Io.KnownBytes.{prepend_known}
@@ -19,14 +19,14 @@ use Rattle.mt_replay.specs.declared.run.End.{End}
 use Rattle.mt_replay.specs.declared.run.End.TheVariants as end
 use Rattle.mt_replay.specs.declared.verifying.Mark.{Mark}
 use Rattle.mt_replay.specs.declared.verifying.Kept.{Kept}
-use Rattle.mt_replay.specs.Input.{Ending, Finished, Failed, Cut, cut, begun, led, separator}
-use Rattle.mt_replay.specs.Script.{Script, ended, taken, led_by, judged, script_from}
+use Rattle.mt_replay.specs.Input.{Ending, Finished, Failed, Cut, cut, begun, separator}
+use Rattle.mt_replay.specs.Script.{Script, ended, taken, led_by, script_from}
 use Rattle.mt_replay.specs.Locating.{◌>>=◌}
-use Rattle.mt_replay.specs.Verify.{Claim, script_limit, place_beyond, is_too_long, within, spelled, line_said, is_front, last_claimed, uncut, claimed_from, claimed}
+use Rattle.mt_replay.specs.Verify.{Claim, script_limit, place_beyond, is_too_long, within, spelled, line_said, is_front, last_claimed, uncut}
 use Rattle.mt_replay.specs.Inner.Reading.{HasNoFeed, TakesLine}
 use Rattle.mt_replay.specs.Inner.Runs.{IsRefusal}
-use Rattle.mt_replay.specs.Inner.Locating.{Reader, IsAll, Breaks, EndsBy, Takes, EndCause}
-use Rattle.mt_replay.specs.Inner.Verifying.{fine, claim_at, first_mark, mark_behind, claim, led_by_lines, Claims, ClaimsBehind, IsRefused, LastIs, LastGives, Says, IsLine, WholeGives, NextGives, Keeps}
+use Rattle.mt_replay.specs.Inner.Locating.{Breaks, EndsBy, Takes, EndCause}
+use Rattle.mt_replay.specs.Inner.Verifying.{fine, claim_at, first_mark, mark_behind, claim, led_by_lines, ClaimsBehind, IsRefused, LastIs, LastGives, Says, IsLine, WholeGives, NextGives, Keeps}
 use Rattle.mt_replay.proofs.Feeds.{HasNoFeed-append}
 use Rattle.mt_replay.proofs.Lines.{Begun, Filled, cut-byte, cut-line, cut-rest}
 use Rattle.mt_replay.proofs.LocatedLines.{ends_after, all_after, takes_after, EndsBy-refusal}

@@ -1,13 +1,11 @@
 -- A text that is compared in pieces.
-use Rattle.std.proofs.Common.{ℕ, ◌+◌, ◌-◌, ◌<◌, ◌≤◌, ◌≡◌, ◌≢◌, ◌==◌, Bool, true, false, cond, inl, inr, List, [], ◌∷◌, ◌++◌, length, take, drop, slice_index, Option, Some, None, Result, Ok, Err, refl, sym, ap, subst, ◌∙◌, arith, append_assoc, append-nil, length-append, length-drop, length-take-le}
-use Rattle.std.specs.Str.{bytes_eq}
+use Rattle.std.proofs.Common.{ℕ, ◌+◌, ◌-◌, ◌<◌, ◌≤◌, ◌≡◌, ◌≢◌, ◌==◌, Bool, true, false, cond, inl, inr, List, [], ◌∷◌, ◌++◌, length, take, drop, slice_index, Option, Some, None, Ok, Err, refl, sym, ap, subst, ◌∙◌, arith, append_assoc, append-nil, length-append, length-drop, length-take-le}
 use Rattle.std.proofs.Math.Seq.{take-add}
 use Rattle.std.proofs.lemmas.List.{take-append-drop, take_all, take-append-le, drop_more, drop_all}
 use Rattle.std.proofs.lemmas.List.Sums.{sum_by-append}
 use Rattle.std.proofs.lemmas.Bool.{cases_lt, false≢true}
 use Rattle.std.proofs.lemmas.Slice.Eq.{bytes_eq-Decides}
 use Rattle.std.specs.Io.KnownBytes.{prepend_known}
-use Rattle.mt_port.specs.Causes.{Rose}
 use Rattle.mt_port.specs.Streams.{WhereTold}
 use Rattle.mt_port.specs.declared.stream.Failed.{Failed}
 use Rattle.mt_port.proofs.StreamLemmas.{WhereTold-then, WhereTold-map}
@@ -19,7 +17,7 @@ use Rattle.mt_replay.specs.declared.comparing.State.{State}
 use Rattle.mt_replay.specs.declared.comparing.State.TheVariants as state
 use Rattle.mt_replay.specs.declared.comparing.Verdict.TheVariants as verdict
 use Rattle.mt_replay.specs.Verify.{is_front}
-use Rattle.mt_replay.specs.Inner.Comparing.{BreaksWithin, Told, IsTally, StandsBy, CausedBy, GoesOn, EndsBefore, Differ, Shares, BreaksBefore, VerdictGives}
+use Rattle.mt_replay.specs.Inner.Comparing.{Told, StandsBy, GoesOn, EndsBefore, Differ, Shares, BreaksBefore, VerdictGives}
 use Rattle.mt_replay.proofs.Lines.{Begun, Filled}
 
 -- ---- line feeds

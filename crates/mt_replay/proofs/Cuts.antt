@@ -1,23 +1,19 @@
 -- The ticks that are told are the fewest.
-use Rattle.std.proofs.Common.{ℕ, ◌≡◌, List, [], ◌++◌, Option, Some, None, refl, sym, ap, ◌∙◌}
-use Rattle.std.specs.Prelude.{slice_get}
+use Rattle.std.proofs.Common.{ℕ, ◌≡◌, ◌++◌, Option, Some, None, sym, ap, ◌∙◌}
 use Rattle.mt_fault.specs.declared.fault.Fault.{Fault}
 use Rattle.mt_blocks.specs.declared.config.ParamSet.{ParamSet}
 use Rattle.mt_cut.specs.Holds.{pass_holds}
 use Rattle.mt_cut.specs.Cuts.{first_above, longest_runs, LongestRunsAreUnder, LongestRunsAreLeast}
 use Rattle.mt_cut.specs.Atomic.{largest}
-use Rattle.mt_conf.specs.declared.config.Config.{Config}
 use Rattle.mt_replay.specs.declared.form.Ask.{Ask}
 use Rattle.mt_replay.specs.declared.form.Asked.{Asked}
 use Rattle.mt_replay.specs.declared.form.Asked.TheVariants as asks
-use Rattle.mt_replay.specs.declared.form.Form.{Form}
 use Rattle.mt_replay.specs.declared.form.Form.TheVariants as forms
 use Rattle.mt_replay.specs.declared.run.End.{End}
 use Rattle.mt_replay.specs.Input.{Finished}
-use Rattle.mt_replay.specs.Machine.{started}
-use Rattle.mt_replay.specs.Script.{Script, script_from}
+use Rattle.mt_replay.specs.Script.{script_from}
 use Rattle.mt_replay.specs.Cut.{chosen_text, ticks_text, largest_text, pass_text, set_text}
-use Rattle.mt_replay.specs.Outcome.{Outcome, end_text, scripted}
+use Rattle.mt_replay.specs.Outcome.{Outcome, end_text}
 use Rattle.mt_replay.specs.Ticks.{TicksAreLeast}
 use Rattle.mt_replay.specs.Replay.{TellsLeastTicks}
 use Rattle.mt_replay.proofs.Accepted.{short_is, is_short, done_is}

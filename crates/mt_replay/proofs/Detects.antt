@@ -25,7 +25,7 @@ use Rattle.mt_replay.specs.declared.form.Asked.{Asked}
 use Rattle.mt_replay.specs.declared.form.Asked.TheVariants as asks
 use Rattle.mt_replay.specs.declared.form.Form.TheVariants as forms
 use Rattle.mt_replay.specs.declared.refused.Refused.TheVariants as because
-use Rattle.mt_replay.specs.Input.{Cut, Job}
+use Rattle.mt_replay.specs.Input.{Job}
 use Rattle.mt_replay.specs.Machine.{Machine, Step, step, started}
 use Rattle.mt_replay.specs.Script.{script_from}
 use Rattle.mt_replay.specs.Outcome.{Outcome, played, bad_config, configured, by_job, outcome}

@@ -1,5 +1,5 @@
 -- The canonical text of a job is that job.
-use Rattle.std.proofs.Common.{ℕ, ◌+◌, ◌-◌, ◌≡◌, ◌≢◌, ◌≤◌, Bool, true, false, cond, List, [], ◌∷◌, ◌++◌, length, All, Option, Some, None, Result, Ok, Err, refl, sym, ap, ◌∙◌, subst, append_assoc, append-nil, arith}
+use Rattle.std.proofs.Common.{ℕ, ◌+◌, ◌-◌, ◌≡◌, ◌≢◌, ◌≤◌, Bool, false, cond, List, [], ◌∷◌, ◌++◌, length, All, Option, Some, None, Result, Ok, refl, sym, ap, ◌∙◌, subst, append_assoc, append-nil, arith}
 use Rattle.std.specs.Prelude.{nat_lt}
 use Rattle.std.proofs.lemmas.Bool.Decides.{nat_tests}
 use Rattle.std.proofs.lemmas.List.Elements.{All-head, All-tail}
@@ -24,8 +24,7 @@ use Rattle.mt_replay.specs.declared.form.Form.{Form}
 use Rattle.mt_replay.specs.declared.form.Form.TheVariants as forms
 use Rattle.mt_replay.specs.declared.run.End.{End}
 use Rattle.mt_replay.specs.declared.run.End.TheVariants as end
-use Rattle.mt_replay.specs.declared.status.Status.TheVariants as status
-use Rattle.mt_replay.specs.Input.{Finished, Cut, cut, led, Parted, job_of}
+use Rattle.mt_replay.specs.Input.{Finished, Cut, cut, led}
 use Rattle.mt_replay.specs.Machine.{started}
 use Rattle.mt_replay.specs.Script.{Script, ended, led_by, taken, judged, script_from}
 use Rattle.mt_replay.specs.Outcome.{Outcome, migrated, canonical_lines, opening_text, end_text, scripted, outcome}

@@ -1,6 +1,6 @@
 -- The requests of a replay are served in time.
-use Rattle.std.proofs.Common.{ℕ, ◌+◌, ◌≡◌, Bool, true, false, cond, List, [], ◌∷◌, ◌++◌, length, All, Option, Some, None, Result, Ok, Err, refl, sym, ap, ◌∙◌, arith, append-nil}
-use Rattle.std.specs.Prelude.{nat_lt, nat_le, is_some, IfOk}
+use Rattle.std.proofs.Common.{ℕ, ◌+◌, Bool, true, false, cond, List, [], ◌∷◌, length, All, Option, Some, None, Result, Ok, Err, refl, ◌∙◌, arith, append-nil}
+use Rattle.std.specs.Prelude.{nat_lt, nat_le, is_some}
 use Rattle.std.proofs.lemmas.List.Elements.{All-push, All-cons, All-head, All-tail, filter-append}
 use Rattle.mt_port.specs.declared.board.Shape.{Shape}
 use Rattle.mt_port.specs.declared.request.Request.{Request}
@@ -9,10 +9,7 @@ use Rattle.mt_fault.specs.declared.fault.Fault.{Fault}
 use Rattle.mt_text.specs.declared.line.Event.{Event}
 use Rattle.mt_text.specs.declared.line.Event.TheVariants as event
 use Rattle.mt_text.specs.declared.line.Line.{Line}
-use Rattle.mt_text.specs.declared.line.LineRefusal.{LineRefusal}
-use Rattle.mt_text.specs.Lines.{line_of}
 use Rattle.mt_text.specs.Accepted.{IsAccepted}
-use Rattle.mt_text.proofs.Parts.{ok_accepted}
 use Rattle.mt_window.specs.declared.reply.Reply.{Reply}
 use Rattle.mt_window.specs.declared.reply.Reply.TheVariants as replies
 use Rattle.mt_window.specs.declared.log.Entry.TheVariants.{Own}
@@ -34,13 +31,11 @@ use Rattle.mt_replay.specs.declared.form.Asked.TheVariants as asks
 use Rattle.mt_replay.specs.declared.form.Form.{Form}
 use Rattle.mt_replay.specs.declared.form.Form.TheVariants as forms
 use Rattle.mt_replay.specs.declared.refused.Refused.TheVariants as because
-use Rattle.mt_replay.specs.declared.run.End.{End}
-use Rattle.mt_replay.specs.declared.run.End.TheVariants as end
 use Rattle.mt_replay.specs.declared.status.Status.TheVariants as status
 use Rattle.mt_replay.specs.Input.{Ending, Finished, Failed, Cut, Job, Parted, Whole, job_of}
 use Rattle.mt_replay.specs.Machine.{Machine, with_ram, with_fls, events_of, fls_events_of, begun, replied, on_board, running, by_service, running_call, service_of, by_fls_service, fls_running_call, fls_service_of, by_event, step, started}
 use Rattle.mt_replay.specs.Script.{script_from}
-use Rattle.mt_replay.specs.Outcome.{played, play_of, said, read_fault_text, bad_config, refused_of, configured, by_job, outcome}
+use Rattle.mt_replay.specs.Outcome.{played, play_of, said, read_fault_text, bad_config, configured, by_job, outcome}
 use Rattle.mt_replay.specs.Latency.{ServesInTime}
 use Rattle.mt_replay.specs.Soak.{soaked}
 use Rattle.mt_replay.specs.Replay.{AreServedInTime}

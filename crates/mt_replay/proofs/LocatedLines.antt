@@ -1,5 +1,5 @@
 -- Lines of a fault location, one after another.
-use Rattle.std.proofs.Common.{ℕ, ◌+◌, ◌<◌, ◌≤◌, ◌≡◌, ◌≢◌, Bool, true, false, cond, List, [], ◌∷◌, ◌++◌, length, Option, Some, None, Result, Ok, Err, refl, lit≤, sym, ap, subst, ◌∙◌, arith, append_assoc, append-nil}
+use Rattle.std.proofs.Common.{ℕ, ◌+◌, ◌<◌, ◌≤◌, ◌≡◌, ◌≢◌, true, false, List, [], ◌∷◌, ◌++◌, length, Option, Some, None, Result, Ok, Err, refl, lit≤, sym, ap, subst, ◌∙◌, arith, append_assoc}
 use Rattle.std.specs.Prelude.{nat_lt}
 use Rattle.std.proofs.lemmas.Bool.{le-ltb, lt-ltb}
 use Rattle.std.specs.Io.KnownBytes.{prepend_known}
@@ -16,11 +16,11 @@ use Rattle.mt_replay.specs.declared.run.End.{End}
 use Rattle.mt_replay.specs.declared.run.End.TheVariants as end
 use Rattle.mt_replay.specs.Input.{Ending, Finished, Failed, Cut, cut}
 use Rattle.mt_replay.specs.Locating.{◌>>=◌, Located, limited, broken_off, slice_said, miss_said, misses_from, missed, with_misses, located, located_lines}
-use Rattle.mt_replay.specs.Inner.Reading.{HasNoFeed, BeginsTooLong, TakesLine, BreaksOff}
+use Rattle.mt_replay.specs.Inner.Reading.{HasNoFeed, BeginsTooLong, TakesLine}
 use Rattle.mt_replay.specs.Inner.Runs.{IsRefusal}
 use Rattle.mt_replay.specs.declared.locating.Stop.{Stop}
 use Rattle.mt_replay.specs.declared.locating.Stop.TheVariants as stop
-use Rattle.mt_replay.specs.Inner.Locating.{Reader, IsAll, Breaks, EndsBy, Takes, led_by, TextGives, SliceGives, LineGives, MissesGive, LocatedGives}
+use Rattle.mt_replay.specs.Inner.Locating.{Reader, IsAll, EndsBy, Takes, led_by, TextGives, SliceGives, LineGives, MissesGive, LocatedGives}
 use Rattle.mt_replay.proofs.Lines.{cut-line, cut-rest, Filled}
 use Rattle.mt_replay.proofs.Runs.{cut-some, told-some}
 

@@ -1,11 +1,10 @@
 -- What `locate` gives, by what came of its lines.
-use Rattle.std.proofs.Common.{ℕ, zero, suc, ◌≡◌, ◌≤◌, ◌<◌, arith, Bool, true, false, cond, inl, inr, ◌⊎◌, List, [], ◌∷◌, ◌++◌, length, Option, Some, None, Result, Ok, Err, refl, sym, ap, ◌∙◌, subst, append_assoc}
+use Rattle.std.proofs.Common.{ℕ, zero, suc, ◌≡◌, ◌<◌, arith, Bool, true, cond, inl, inr, List, [], ◌∷◌, ◌++◌, length, Option, Some, None, Result, Ok, Err, refl, sym, ap, ◌∙◌, subst, append_assoc}
 use Rattle.std.proofs.lemmas.List.Elements.{All-contains, All-filter, All-contains_itself, filter_passes}
 use Rattle.std.proofs.lemmas.List.Kept.{AllPairs-filter}
-use Rattle.std.specs.Prelude.{AllPairs, ◌≢◌, Contains, IsTrue, ◌↔◌, filter, slice_index_or}
+use Rattle.std.specs.Prelude.{AllPairs, ◌≢◌, Contains, ◌↔◌, filter, slice_index_or}
 use Rattle.mt_window.specs.Kept.{cond_case}
 use Rattle.std.specs.Io.KnownBytes.{prepend_known}
-use Rattle.mt_port.specs.Causes.{Rose}
 use Rattle.mt_port.specs.Streams.{WhereTold}
 use Rattle.mt_port.specs.Board.{Board}
 use Rattle.mt_port.specs.declared.board.Touch.{Touch}
@@ -16,10 +15,9 @@ use Rattle.mt_replay.specs.declared.locating.Stop.TheVariants as stop
 use Rattle.mt_replay.specs.declared.run.End.{End}
 use Rattle.mt_replay.specs.declared.run.End.TheVariants as end
 use Rattle.mt_replay.specs.declared.status.Status.{Status}
-use Rattle.mt_replay.specs.declared.status.Status.TheVariants as status
-use Rattle.mt_replay.specs.Input.{Ending, Finished, Failed, Cut, cut, job_of}
+use Rattle.mt_replay.specs.Input.{Ending, Finished, Failed, cut, job_of}
 use Rattle.mt_replay.specs.Locating.{Located, located}
-use Rattle.mt_replay.specs.Locate.{found_faults, LocatingIsExact, found_text, stop_text, stop_status, lines_give, locating_by, locating}
+use Rattle.mt_replay.specs.Locate.{found_faults, LocatingIsExact, stop_text, stop_status, lines_give, locating_by, locating}
 use Rattle.mt_replay.specs.declared.refused.Refused.TheVariants as because
 use Rattle.mt_replay.specs.declared.form.Asked.{Asked}
 use Rattle.mt_replay.specs.declared.form.Asked.TheVariants as asks

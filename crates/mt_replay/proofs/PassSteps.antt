@@ -15,7 +15,7 @@ use Rattle.mt_blocks.specs.Slices.{Piece, pieces, span_at}
 use Rattle.mt_ram.specs.declared.state.State.{State}
 use Rattle.mt_ram.specs.declared.state.State.TheVariants.{Running, Suspended, Partial}
 use Rattle.mt_ram.specs.State.{RamTst, set_of, spans_in}
-use Rattle.mt_ram.specs.Table.{Service, RunPartialTest, GetTestResultPerBlock, cell, testing, in_state, suspended, resumed, after, reply_to}
+use Rattle.mt_ram.specs.Table.{cell, testing, in_state, suspended, resumed, after, reply_to}
 use Rattle.mt_fls.specs.Table as fls_table
 use Rattle.mt_text.specs.declared.line.Event.{Event}
 use Rattle.mt_text.specs.declared.line.Event.TheVariants as event

@@ -1,25 +1,21 @@
 -- On sound memory a replay is one in which no test touches a word.
-use Rattle.std.proofs.Common.{ℕ, zero, suc, ◌≡◌, ◌≤◌, ◌<◌, ◌++◌, ◌≢◌, Bool, true, false, cond, List, [], ◌∷◌, length, All, Option, Some, None, Result, Ok, Err, refl, sym, ap, ◌∙◌, subst, arith}
+use Rattle.std.proofs.Common.{ℕ, zero, suc, ◌≡◌, ◌++◌, ◌≢◌, Bool, cond, List, [], ◌∷◌, length, All, Option, Some, None, Result, refl, sym, ap, ◌∙◌, subst}
 use Rattle.std.proofs.lemmas.List.Elements.{All-head, All-tail}
-use Rattle.std.specs.Prelude.{is_some, nat_lt, slice_index_or}
 use Rattle.mt_plan.specs.Plan.{IsAccepted}
-use Rattle.mt_port.specs.Board.{Board, injected}
+use Rattle.mt_port.specs.Board.{Board}
 use Rattle.mt_port.specs.declared.request.Request.{Request}
 use Rattle.mt_fault.specs.declared.fault.Fault.{Fault}
 use Rattle.mt_text.specs.declared.line.Event.{Event}
 use Rattle.mt_text.specs.declared.line.Event.TheVariants as event
 use Rattle.mt_text.specs.declared.line.Line.{Line}
 use Rattle.mt_text.specs.declared.line.RamCall.{RamCall}
-use Rattle.mt_seq.specs.declared.sequence.Verdict.{Verdict}
 use Rattle.mt_window.specs.declared.log.Entry.TheVariants.{Own}
 use Rattle.mt_window.specs.Serving.{Scene}
 use Rattle.mt_window.specs.Slices.{Attempt, Trail}
-use Rattle.mt_window.specs.Events.{Running as Events, Outcome as EventOutcome, event as event_of, opened, ran}
-use Rattle.mt_window.specs.Waits.{KeepsBoard}
+use Rattle.mt_window.specs.Events.{Outcome as EventOutcome, event as event_of, opened, ran}
 use Rattle.mt_port.specs.declared.board.Touch.{Touch}
 use Rattle.mt_blocks.specs.declared.config.ParamSet.{ParamSet}
-use Rattle.mt_blocks.specs.Slices.{Piece}
-use Rattle.mt_blocks.specs.Accepted.{set_at, no_set, IsAcceptedSet}
+use Rattle.mt_blocks.specs.Accepted.{set_at}
 use Rattle.mt_ram.specs.State.{Setting, RamTst}
 use Rattle.mt_ram.specs.Table.{Service, MainFunction}
 use Rattle.mt_ram.specs.Event.{ticking, full_test}
@@ -36,8 +32,8 @@ use Rattle.mt_replay.specs.declared.event.FlsRunning.{FlsRunning}
 use Rattle.mt_replay.specs.declared.event.FlsRunning.TheVariants as fls_calls
 use Rattle.mt_replay.specs.declared.form.Form.TheVariants as forms
 use Rattle.mt_replay.specs.declared.refused.Refused.TheVariants as because
-use Rattle.mt_replay.specs.Input.{Ending, Cut, Job, Parted, job_of}
-use Rattle.mt_replay.specs.Machine.{Machine, Step, with_ram, with_fls, events_of, fls_events_of, begun, replied, on_board, running, by_service, running_call, service_of, by_fls_service, fls_running_call, fls_service_of, by_event, step, started}
+use Rattle.mt_replay.specs.Input.{Job}
+use Rattle.mt_replay.specs.Machine.{Machine, Step, with_ram, events_of, begun, running, by_service, running_call, service_of, by_fls_service, fls_running_call, fls_service_of, by_event, step, started}
 use Rattle.mt_replay.specs.Script.{script_from}
 use Rattle.mt_replay.specs.Outcome.{Outcome, played, played_by, stepped, Play, bad_config, configured, by_job, outcome}
 use Rattle.mt_replay.specs.Plain.{plain_running, plain_call, plain_event, plain_step, InjectsNothing, ReplaysLeaveNoTrace}

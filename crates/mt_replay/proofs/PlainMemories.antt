@@ -1,5 +1,5 @@
 -- On sound memory the application of a replay finds a plain memory.
-use Rattle.std.proofs.Common.{ℕ, zero, suc, ◌≡◌, ◌+◌, ◌/◌, ◌<◌, ◌≤◌, Bool, true, false, cond, List, [], ◌∷◌, ◌++◌, ◌≢◌, length, map, drop, get_or, All, Option, Some, None, Result, Ok, Err, refl, sym, ap, ◌∙◌, subst, arith, append-nil}
+use Rattle.std.proofs.Common.{ℕ, zero, suc, ◌≡◌, ◌+◌, ◌/◌, ◌<◌, ◌≤◌, Bool, true, false, cond, List, [], ◌∷◌, ◌++◌, ◌≢◌, length, map, drop, get_or, All, Option, Some, None, Result, refl, sym, ap, ◌∙◌, subst, arith, append-nil}
 use Rattle.std.proofs.Math.Seq.{take-append_seam, drop-append_seam}
 use Rattle.std.proofs.lemmas.Bool.{ltb-true}
 use Rattle.std.proofs.lemmas.List.{drop_more, length-map}
@@ -8,7 +8,6 @@ use Rattle.std.specs.Prelude.{nat_lt, Contains}
 use Rattle.mt_plan.specs.declared.algorithm.Policy.{Policy}
 use Rattle.mt_plan.specs.declared.algorithm.Policy.TheVariants.{NonDestructive, Destructive}
 use Rattle.mt_port.specs.Board.{Board}
-use Rattle.mt_port.specs.declared.request.AppOp.{AppOp}
 use Rattle.mt_port.specs.declared.request.Answer.{Answer}
 use Rattle.mt_port.specs.declared.request.HandlerCall.{HandlerCall}
 use Rattle.mt_port.specs.declared.request.HandlerOp.{HandlerOp}
@@ -20,7 +19,6 @@ use Rattle.mt_text.specs.declared.line.Line.{Line}
 use Rattle.mt_seq.specs.declared.sequence.Verdict.{Verdict}
 use Rattle.mt_seq.specs.Attempts.{attempt_words, attempt_verdict}
 use Rattle.mt_seq.specs.Laws.{DroppedAttemptsStay, WholeAttemptsPass, left_words}
-use Rattle.mt_window.specs.declared.log.Entry.{Entry}
 use Rattle.mt_window.specs.declared.log.Entry.TheVariants.{Own}
 use Rattle.mt_window.specs.declared.reply.Reply.{Reply}
 use Rattle.mt_window.specs.Serving.{Scene, given}
@@ -44,7 +42,6 @@ use Rattle.mt_ram.specs.Table.{Service, MainFunction, RunFullTest, RunPartialTes
 use Rattle.mt_ram.specs.Moves.{row-moves}
 use Rattle.mt_ram.specs.Event.{job_of as test_of, of_pass, of_test}
 use Rattle.mt_ram.specs.Plain.{HasAcceptedMarches}
-use Rattle.mt_fls.specs.State.{FlsTst}
 use Rattle.mt_fls.specs.Table as fls_table
 use Rattle.mt_fls.specs.Event as fls_event
 use Rattle.mt_conf.specs.declared.config.Config.{Config}
@@ -59,15 +56,15 @@ use Rattle.mt_replay.specs.declared.form.Asked.{Asked}
 use Rattle.mt_replay.specs.declared.form.Asked.TheVariants as asks
 use Rattle.mt_replay.specs.declared.form.Form.TheVariants as forms
 use Rattle.mt_replay.specs.declared.refused.Refused.TheVariants as because
-use Rattle.mt_replay.specs.Input.{Job, job_of}
+use Rattle.mt_replay.specs.Input.{Job}
 use Rattle.mt_replay.specs.Machine.{Machine, Step, with_ram, with_fls, events_of, fls_events_of, begun, running, by_service, running_call, service_of, by_fls_service, fls_running_call, fls_service_of, by_event, step, started}
 use Rattle.mt_replay.specs.Script.{script_from}
 use Rattle.mt_replay.specs.Outcome.{Outcome, played, bad_config, configured, by_job, outcome}
 use Rattle.mt_replay.specs.Plain.{InjectsNothing}
-use Rattle.mt_replay.specs.Memory.{Deed, Operates, IsDeedOf, plain, words_after, answers_of, operations_among, fills_among, handled, operations_in, operations_of, inner_replies, replies_in, replies_of, IsPlain, ArePlain, ReplaysArePlain}
+use Rattle.mt_replay.specs.Memory.{Deed, Operates, IsDeedOf, words_after, answers_of, operations_among, fills_among, handled, operations_in, operations_of, inner_replies, replies_in, replies_of, IsPlain, ArePlain, ReplaysArePlain}
 use Rattle.mt_replay.proofs.Accepted.{small}
 use Rattle.mt_replay.proofs.Fixed.{config_accepted}
-use Rattle.mt_replay.proofs.Memories.{LeavesWords, IsLeft, Same, Filled, Finds, event-found, words-plain, answer-plain, inner-append}
+use Rattle.mt_replay.proofs.Memories.{LeavesWords, IsLeft, Same, Filled, event-found, words-plain, answer-plain, inner-append}
 use Rattle.mt_replay.specs.Replay.{LeavesNoTrace}
 use Rattle.mt_replay.proofs.Plain.{LeaveNoTrace, IsSound, step-sound, marches-at, replays_leave_no_trace}
 

@@ -1,9 +1,8 @@
 -- Lines that are run one after another.
-use Rattle.std.proofs.Common.{ℕ, ◌+◌, ◌-◌, ◌<◌, ◌≤◌, ◌≡◌, ◌≢◌, Bool, true, false, cond, inl, inr, List, [], ◌∷◌, ◌++◌, length, Option, Some, None, Result, Ok, Err, refl, sym, ap, subst, ◌∙◌, arith, append_assoc, append-nil, length-append}
+use Rattle.std.proofs.Common.{ℕ, ◌+◌, ◌-◌, ◌<◌, ◌≤◌, ◌≡◌, ◌≢◌, Bool, true, false, cond, inl, inr, List, [], ◌∷◌, ◌++◌, length, Option, Some, None, Result, Ok, Err, refl, sym, ap, subst, ◌∙◌, arith, append_assoc, length-append}
 use Rattle.std.specs.Prelude.{nat_lt}
 use Rattle.std.proofs.lemmas.Bool.{le-ltb, lt-ltb}
 use Rattle.std.specs.Io.KnownBytes.{prepend_known, Appends}
-use Rattle.mt_port.specs.Causes.{Rose}
 use Rattle.mt_port.specs.Streams.{WhereTold, AppendsFront}
 use Rattle.mt_port.specs.Board.{Board, Logs}
 use Rattle.mt_port.specs.declared.board.Shape.{Shape}
@@ -24,7 +23,7 @@ use Rattle.mt_replay.specs.Machine.{Machine}
 use Rattle.mt_replay.specs.Script.{Script, ended, led_by, judged, last_judged, lines_from, script_from}
 use Rattle.mt_replay.specs.Outcome.{Play, play_of, steps_touches}
 use Rattle.mt_replay.specs.Changes.{Change, change, UsesBoard}
-use Rattle.mt_replay.specs.Inner.Runs.{outputs, Place, place, text_at, touches_at, Answered, Crosses, Goes, BreaksAt, EndsAt, Ends, BeginsWith, Stops, Judging, IsTaken, IsRefusal, TakesLine, Refuses, CutsOff, LineGives, LastGives, PastGives, TurnGives, ScriptGives, EndCaused}
+use Rattle.mt_replay.specs.Inner.Runs.{outputs, Place, place, text_at, touches_at, Answered, Crosses, Goes, EndsAt, Ends, Stops, LineGives, LastGives, TurnGives, ScriptGives}
 use Rattle.mt_replay.proofs.Feeds.{feed_or_not}
 use Rattle.mt_replay.proofs.Lines.{cut-line, cut-rest, Filled}
 use Rattle.mt_replay.proofs.Plays.{play_of-append, play_of-nil, touches-append, lines_text-append, lines_text-nil}

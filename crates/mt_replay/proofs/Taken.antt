@@ -1,5 +1,5 @@
 -- The lines of a script are accepted, and not too many.
-use Rattle.std.proofs.Common.{ℕ, ◌+◌, ◌-◌, ◌≤◌, ◌≡◌, Bool, true, false, cond, List, [], ◌∷◌, length, Result, Ok, Err, refl, sym, ap, ◌∙◌, arith}
+use Rattle.std.proofs.Common.{ℕ, ◌+◌, ◌-◌, ◌≤◌, ◌≡◌, Bool, true, false, cond, List, [], ◌∷◌, length, Result, Ok, Err, refl, arith}
 use Rattle.std.specs.Prelude.{nat_lt, IfOk}
 use Rattle.mt_port.specs.declared.board.Shape.{Shape}
 use Rattle.mt_text.specs.declared.line.Line.{Line}
@@ -7,7 +7,6 @@ use Rattle.mt_text.specs.declared.line.LineRefusal.{LineRefusal}
 use Rattle.mt_text.specs.Lines.{line_of}
 use Rattle.mt_text.specs.Accepted.{IsAccepted}
 use Rattle.mt_text.proofs.Parts.{ok_accepted}
-use Rattle.mt_replay.specs.declared.run.End.{End}
 use Rattle.mt_replay.specs.declared.run.End.TheVariants as end
 use Rattle.mt_replay.specs.Input.{Ending, Finished, Failed}
 use Rattle.mt_replay.specs.Script.{Script, ended, taken, judged, last_judged, lines_from}

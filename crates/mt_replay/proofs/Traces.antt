@@ -1,5 +1,5 @@
 -- Trace lines: each is one line, and how they are compared one after another.
-use Rattle.std.proofs.Common.{ℕ, ◌+◌, ◌<◌, ◌≤◌, ◌≡◌, true, List, [], ◌∷◌, ◌++◌, length, Option, Some, None, refl, sym, ap, subst, ◌∙◌, arith, codes, append_assoc, append-nil, length-append}
+use Rattle.std.proofs.Common.{ℕ, ◌+◌, ◌<◌, ◌≡◌, true, List, [], ◌∷◌, ◌++◌, length, Option, Some, None, refl, sym, ap, subst, ◌∙◌, arith, codes, append_assoc, append-nil, length-append}
 use Rattle.std.specs.Fmt.{decimal}
 use Rattle.mt_word.specs.declared.Width.{Width}
 use Rattle.mt_window.specs.declared.log.Entry.{Entry}
@@ -25,8 +25,8 @@ use Rattle.mt_verify.specs.Lines.{feeds, lines}
 use Rattle.mt_verify.specs.Laws.{IsWhole, HasNoEmptyLine, HasNoFeed as HasNoLineFeed}
 use Rattle.mt_verify.proofs.Lines.{feeds-byte, lines-nil}
 use Rattle.mt_verify.proofs.Whole.{line_first, whole, joined}
-use Rattle.mt_replay.specs.Machine.{Machine, Step, step}
-use Rattle.mt_replay.specs.Outcome.{done_text, steps_text, steps_touches, played}
+use Rattle.mt_replay.specs.Machine.{Machine, Step}
+use Rattle.mt_replay.specs.Outcome.{done_text, steps_text}
 use Rattle.mt_replay.specs.Inner.Reading.{HasNoFeed}
 use Rattle.mt_replay.specs.declared.comparing.Comparison.{Comparison}
 use Rattle.mt_replay.specs.Inner.Comparing.{StandsBy, Compares}

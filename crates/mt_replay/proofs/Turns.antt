@@ -1,8 +1,7 @@
 -- A line that is judged and answered.
-use Rattle.std.proofs.Common.{ℕ, ◌≤◌, ◌≡◌, false, List, [], ◌∷◌, ◌++◌, length, Option, Result, Ok, Err, OnOk, OnErr, refl, sym, ap, subst, ◌∙◌}
+use Rattle.std.proofs.Common.{ℕ, ◌≤◌, ◌≡◌, false, List, [], ◌∷◌, length, Option, Result, Ok, Err, refl, sym, ap, subst, ◌∙◌}
 use Rattle.std.specs.Prelude.{nat_lt}
 use Rattle.std.proofs.lemmas.Bool.{le-ltb}
-use Rattle.std.proofs.lemmas.Result.{on_ok_weaker, on_err_weaker}
 use Rattle.std.specs.Io.KnownBytes.{Appends}
 use Rattle.mt_port.specs.Streams.{AppendsFront}
 use Rattle.mt_port.specs.Board.{Logs}
@@ -17,10 +16,10 @@ use Rattle.mt_window.specs.declared.log.Entry.{Entry}
 use Rattle.mt_replay.specs.declared.form.Form.TheVariants as forms
 use Rattle.mt_replay.specs.declared.run.End.TheVariants as end
 use Rattle.mt_replay.specs.Inner.Events.{Steps}
-use Rattle.mt_replay.specs.Machine.{Machine, step}
-use Rattle.mt_replay.specs.Script.{Script, ended, led_by, taken, judged}
+use Rattle.mt_replay.specs.Machine.{Machine}
+use Rattle.mt_replay.specs.Script.{Script, taken, judged}
 use Rattle.mt_replay.specs.Changes.{Change}
-use Rattle.mt_replay.specs.Inner.Runs.{Place, place, outputs, text_at, Answered, IsTaken, EndsThere}
+use Rattle.mt_replay.specs.Inner.Runs.{place, text_at, Answered, IsTaken, EndsThere}
 use Rattle.mt_replay.proofs.Plays.{run_text-one, run_touches-one}
 use Rattle.mt_replay.proofs.Texts.{entries_text-nil}
 

@@ -1,9 +1,7 @@
 -- How long the requests of a replay wait.
-use Rattle.std.specs.Prelude.{ℕ, ◌≡◌, List, ◌++◌, All}
-use Rattle.mt_port.specs.declared.board.Shape.{Shape}
+use Rattle.std.specs.Prelude.{◌≡◌, ◌++◌, All}
 use Rattle.mt_window.specs.Waits.{services, line_served, IsShort, IsUrgentlyServed}
 use Rattle.mt_replay.specs.declared.form.Form.TheVariants as forms
-use Rattle.mt_replay.specs.declared.run.End.{End}
 use Rattle.mt_replay.specs.Machine.{Machine, Step}
 use Rattle.mt_replay.specs.Script.{Script}
 use Rattle.mt_conf.specs.declared.config.Config.{Config}

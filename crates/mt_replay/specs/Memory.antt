@@ -1,5 +1,5 @@
 -- The application's memory: what its operations find and leave, with no test, no fault and no module, but for the fills of destructive blocks.
-use Rattle.std.specs.Prelude.{ℕ, ◌+◌, ◌≡◌, ◌≤◌, List, [], ◌∷◌, map, flat_map, length, All, Contains, Option, Some, None, Ok}
+use Rattle.std.specs.Prelude.{ℕ, ◌+◌, ◌≡◌, ◌≤◌, List, [], ◌∷◌, map, flat_map, length, All, Contains, Option, None, Ok}
 use Rattle.mt_fault.specs.declared.fault.Fault.{Fault}
 use Rattle.mt_port.specs.declared.board.Shape.{Shape}
 use Rattle.mt_port.specs.declared.request.AppOp.{AppOp}

@@ -1,5 +1,5 @@
 -- What the top call does.
-use Rattle.std.specs.Prelude.{ℕ, option_map, ◌-◌, ◌^◌, ◌<◌, ◌≡◌, ◌⊎◌, false, if◌then◌else◌, List, [], ◌∷◌, ◌++◌, All, codes, Option, Some, None, String, string_bytes}
+use Rattle.std.specs.Prelude.{ℕ, ◌-◌, ◌^◌, ◌<◌, ◌≡◌, ◌⊎◌, false, if◌then◌else◌, List, [], ◌∷◌, ◌++◌, All, codes, Option, Some, None, String, string_bytes}
 use Rattle.std.specs.declared.alloc.Global.{Global}
 use Rattle.std.specs.Str.{bytes_eq}
 use Rattle.std.specs.Io.KnownBytes.{Appends}
@@ -9,7 +9,6 @@ use Rattle.mt_port.specs.Board.{Board, Logs}
 use Rattle.mt_port.specs.declared.board.Touch.{Touch}
 use Rattle.mt_fault.specs.declared.fault.Fault.{Fault}
 use Rattle.mt_text.specs.Tokens.{number_of}
-use Rattle.mt_replay.specs.declared.form.Ask.{Ask}
 use Rattle.mt_replay.specs.declared.form.Asked.{Asked}
 use Rattle.mt_replay.specs.declared.form.Asked.TheVariants as asks
 use Rattle.mt_replay.specs.declared.form.Form.{Form}

@@ -1,8 +1,6 @@
 -- What the form `soak` gives: a summary of the replay of the generated job.
-use Rattle.std.specs.Prelude.{ℕ, ◌≡◌, List, ◌++◌, length, codes, flat_map, Option, Some}
+use Rattle.std.specs.Prelude.{ℕ, List, ◌++◌, length, codes, flat_map, Option}
 use Rattle.std.specs.Fmt.{decimal}
-use Rattle.mt_port.specs.Board.{Board}
-use Rattle.mt_port.specs.declared.board.Touch.{Touch}
 use Rattle.mt_fault.specs.declared.fault.Fault.{Fault}
 use Rattle.mt_text.specs.declared.line.Line.{Line}
 use Rattle.mt_text.specs.Trace.{result_name}
@@ -15,7 +13,7 @@ use Rattle.mt_gen.specs.declared.summary.Summary.{Summary}
 use Rattle.mt_gen.specs.Summary.{summary_of}
 use Rattle.mt_replay.specs.declared.form.Form.TheVariants as forms
 use Rattle.mt_replay.specs.declared.status.Status.TheVariants as status
-use Rattle.mt_replay.specs.Machine.{Machine, Step, started}
+use Rattle.mt_replay.specs.Machine.{Step, started}
 use Rattle.mt_replay.specs.Outcome.{Play, Outcome, played, after_of, done_text}
 
 -- a line with a word and a number, or with a word and a text

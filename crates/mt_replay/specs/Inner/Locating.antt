@@ -1,8 +1,6 @@
 -- What the calls that read the lines of a fault location do.
 use Rattle.std.specs.Prelude.{ℕ, ◌+◌, ◌≡◌, List, [], ◌∷◌, ◌++◌, Option, None, Some, Result, Ok, Err}
 use Rattle.mt_port.specs.Causes.{Rose}
-use Rattle.mt_port.specs.declared.board.Shape.{Shape}
-use Rattle.mt_blocks.specs.declared.config.ParamSet.{ParamSet}
 use Rattle.mt_locate.specs.declared.probe.Probe.{Probe}
 use Rattle.mt_locate.specs.declared.probe.Miss.{Miss}
 use Rattle.mt_replay.specs.declared.input.Line.TheVariants as line
@@ -15,7 +13,7 @@ use Rattle.mt_replay.specs.declared.locating.Stop.TheVariants as stop
 use Rattle.mt_replay.specs.declared.locating.Opening.{Opening}
 use Rattle.mt_replay.specs.declared.locating.NextMiss.{NextMiss}
 use Rattle.mt_replay.specs.Input.{Ending, Finished, Failed, Cut, cut}
-use Rattle.mt_replay.specs.Locating.{◌>>=◌, Located, located, missed, with_misses}
+use Rattle.mt_replay.specs.Locating.{◌>>=◌, Located, missed, with_misses}
 use Rattle.mt_replay.specs.Inner.Reading.{TakesLine, BreaksOff}
 
 -- how bytes are read, before a way of ending

@@ -5,7 +5,6 @@ use Rattle.mt_port.specs.declared.board.Shape.{Shape}
 use Rattle.mt_port.specs.declared.board.Touch.{Touch}
 use Rattle.mt_text.specs.declared.line.Line.{Line}
 use Rattle.mt_replay.specs.declared.comparing.Comparison.{Comparison}
-use Rattle.mt_replay.specs.declared.form.Form.TheVariants as forms
 use Rattle.mt_replay.specs.Machine.{Machine}
 use Rattle.mt_replay.specs.Input.{Finished, cut}
 use Rattle.mt_replay.specs.Script.{Script, led_by, script_from}

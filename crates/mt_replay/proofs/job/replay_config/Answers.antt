@@ -1,4 +1,4 @@
-use Rattle.std.proofs.Common.{List, [], None, Option, refl, subst}
+use Rattle.std.proofs.Common.{[], None, refl, subst}
 use Rattle.std.specs.Io.KnownBytes.{prepend_known}
 use Rattle.mt_port.specs.Streams.{WhereTold}
 use Rattle.mt_replay.specs.declared.form.Form.{Form}

@@ -1,4 +1,4 @@
-use Rattle.std.proofs.Common.{ℕ, ap, sym, subst, List, Ok, Err}
+use Rattle.std.proofs.Common.{ap, sym, subst, List, Ok, Err}
 use Rattle.std.specs.Io.KnownBytes.{prepend_known}
 use Rattle.mt_port.specs.Streams.{WhereTold}
 use Rattle.mt_blocks.specs.declared.config.ParamSet.{ParamSet}

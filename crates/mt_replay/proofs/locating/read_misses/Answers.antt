@@ -1,7 +1,7 @@
-use Rattle.std.proofs.Common.{◌≡◌, ◌∙◌, ℕ, arith, append-nil, sym, refl, subst, None}
+use Rattle.std.proofs.Common.{◌≡◌, ◌∙◌, ℕ, arith, append-nil, sym, refl, subst}
 use Rattle.std.specs.Io.KnownBytes.{prepend_known}
 use Rattle.mt_port.specs.Streams.{WhereTold}
-use Rattle.mt_replay.proofs.LocatedLines.{Missed, none_missed, one_missed, last_missed, all_missed, ends_missed}
+use Rattle.mt_replay.proofs.LocatedLines.{Missed, none_missed, one_missed, all_missed, ends_missed}
 use Rattle.mt_replay.proofs.locating.read_misses.Goals as goal
 
 pub loop-number-init : goal.loop-number-init

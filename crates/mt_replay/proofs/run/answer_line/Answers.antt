@@ -8,7 +8,7 @@ use Rattle.mt_replay.specs.declared.form.Form.{Form}
 use Rattle.mt_replay.specs.declared.form.Form.TheVariants as forms
 use Rattle.mt_replay.specs.Machine.{Machine, machine}
 use Rattle.mt_replay.specs.Inner.Runs.{place, outputs, Answered, text_at}
-use Rattle.std.proofs.Common.{OnOk, OnErr}
+use Rattle.std.proofs.Common.{OnErr}
 use Rattle.mt_port.specs.Streams.{AppendsFront}
 use Rattle.mt_replay.proofs.run.answer_line.Goals as goal
 

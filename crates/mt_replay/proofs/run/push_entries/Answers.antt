@@ -1,4 +1,4 @@
-use Rattle.std.proofs.Common.{ℕ, ◌≡◌, ◌≤◌, ◌+◌, ◌*◌, ◌++◌, ◌∷◌, [], ◌∙◌, List, length, length-append, take, ap, sym, subst, arith}
+use Rattle.std.proofs.Common.{ℕ, ◌∙◌, List, length, length-append, ap, sym, arith}
 use Rattle.mt_replay.proofs.Texts.{entries_text-nil, entries_text-more}
 use Rattle.mt_replay.proofs.run.push_entries.Goals as goal
 

@@ -1,4 +1,4 @@
-use Rattle.mt_replay.proofs.Runs.{past_line, past_end, past_broken}
+use Rattle.mt_replay.proofs.Runs.{past_line}
 use Rattle.mt_replay.proofs.run.run_past.Goals as goal
 
 pub returns-in-Ok-true-clause-gives : goal.returns-in-Ok-true-clause-gives

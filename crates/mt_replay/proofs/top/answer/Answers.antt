@@ -1,6 +1,5 @@
-use Rattle.std.proofs.Common.{sym, ap, ◌∙◌, subst, Option, Some}
+use Rattle.std.proofs.Common.{sym, subst, Some}
 use Rattle.mt_replay.specs.declared.form.Asked.{Asked}
-use Rattle.mt_replay.specs.declared.form.Asked.TheVariants as asks
 use Rattle.mt_replay.specs.Replay.{outcomes, Completes}
 use Rattle.mt_replay.specs.Locate.{locating}
 use Rattle.mt_replay.specs.Verify.{verifying}

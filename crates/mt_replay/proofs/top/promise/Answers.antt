@@ -1,4 +1,3 @@
-use Rattle.std.proofs.Common.{sym, ap, ◌∙◌, subst, Option, Some}
 use Rattle.mt_window.specs.Waits.{ServesInTime}
 use Rattle.mt_ram.specs.Event.{ticking, full_test}
 use Rattle.mt_ram.specs.Laws.{PartialTestsServeInTime}
@@ -9,12 +8,6 @@ use Rattle.mt_replay.specs.declared.event.Running.TheVariants as rams
 use Rattle.mt_replay.specs.declared.event.FlsRunning.{FlsRunning}
 use Rattle.mt_replay.specs.declared.event.FlsRunning.TheVariants as flss
 use Rattle.mt_replay.specs.Machine.{events_of, fls_events_of}
-use Rattle.mt_replay.specs.declared.form.Asked.{Asked}
-use Rattle.mt_replay.specs.declared.form.Asked.TheVariants as asks
-use Rattle.mt_replay.specs.Replay.{outcomes, Completes}
-use Rattle.mt_replay.specs.Locate.{locating}
-use Rattle.mt_replay.proofs.Jobs.{completes}
-use Rattle.mt_replay.proofs.Soaks.{soak_caused, soak_completes}
 use Rattle.mt_replay.proofs.Latencies.{are_served_in_time}
 use Rattle.mt_replay.proofs.Cuts.{tells_least_ticks}
 use Rattle.mt_replay.proofs.Locates.{lists_what_explains}

@@ -1,6 +1,4 @@
-use Rattle.std.proofs.Common.{◌≡◌, ◌∙◌, ℕ, List, Option, Result, Ok, Err, ap, sym, subst}
-use Rattle.mt_replay.specs.declared.job.Follows.{Follows}
-use Rattle.mt_replay.specs.declared.run.End.{End}
+use Rattle.std.proofs.Common.{ℕ, List, subst}
 use Rattle.mt_replay.specs.Inner.Verifying.{WholeGives, LastGives}
 use Rattle.mt_replay.proofs.ClaimedLines.{whole_gives, last_gives, missing_gives, refused_gives, not_broken, refusal_cause}
 use Rattle.mt_replay.proofs.verifying.next_line.Goals as goal

@@ -1,4 +1,4 @@
-use Rattle.std.proofs.Common.{◌≡◌, ◌≤◌, ◌+◌, ◌++◌, ◌∷◌, [], ◌∙◌, ℕ, arith, List, length, ap, sym, refl, lit≤, subst}
+use Rattle.std.proofs.Common.{◌≡◌, ◌≤◌, ◌+◌, ◌++◌, ◌∷◌, [], ◌∙◌, ℕ, arith, List, length, ap, refl, lit≤}
 use Rattle.mt_replay.specs.declared.verifying.Mark.{Mark}
 use Rattle.mt_replay.proofs.ClaimedLines.{read_none, read_one, read_all, read_ends}
 use Rattle.mt_replay.proofs.verifying.read_script.Goals as goal

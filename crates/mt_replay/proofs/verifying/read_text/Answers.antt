@@ -1,14 +1,10 @@
-use Rattle.std.proofs.Common.{◌≡◌, ◌∙◌, true, Bool, ℕ, List, Err, ap, subst, sym, refl}
-use Rattle.std.specs.Io.KnownBytes.{prepend_known}
-use Rattle.mt_port.specs.declared.board.Shape.{Shape}
+use Rattle.std.proofs.Common.{◌∙◌, ℕ, List, Err, ap, subst, sym}
 use Rattle.mt_replay.specs.declared.run.End.{End}
-use Rattle.mt_replay.specs.declared.run.End.TheVariants as end
 use Rattle.mt_replay.specs.Inner.Reading.{HasNoFeed}
-use Rattle.mt_replay.specs.Inner.Runs.{IsRefusal}
 use Rattle.mt_replay.specs.Verify.{last_claimed}
 use Rattle.mt_replay.specs.Input.{Failed}
 use Rattle.mt_replay.proofs.Feeds.{HasNoFeed-append}
-use Rattle.mt_replay.proofs.Lines.{Begun, Filled, ends_whole, goes_on}
+use Rattle.mt_replay.proofs.Lines.{ends_whole, goes_on}
 use Rattle.mt_replay.proofs.ClaimedLines.{text_exceeds, text_refused, text_breaks}
 use Rattle.mt_replay.proofs.Texts.{OnErr-any}
 use Rattle.mt_replay.proofs.verifying.read_text.Goals as goal

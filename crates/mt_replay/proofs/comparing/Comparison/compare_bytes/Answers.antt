@@ -1,10 +1,10 @@
-use Rattle.std.proofs.Common.{◌≡◌, ◌≤◌, ◌<◌, ◌-◌, ◌++◌, ◌∙◌, ℕ, List, take, drop, length, arith, ap, sym, subst, length-drop}
+use Rattle.std.proofs.Common.{◌++◌, ◌∙◌, length, arith, ap, sym, subst, length-drop}
 use Rattle.std.proofs.lemmas.List.{take_rest}
 use Rattle.std.specs.Io.KnownBytes.{prepend_known}
 use Rattle.mt_replay.specs.declared.comparing.State.{State}
 use Rattle.mt_replay.specs.Inner.Comparing.{StandsBy}
 use Rattle.mt_verify.specs.Lines.{feeds}
-use Rattle.mt_replay.proofs.Comparisons.{matched, so_far, stands_ended, stands_failed, stands_differs, begun_on, tally_on, few_counted, some_shared, stands_whole, some_bytes, feeds-parts}
+use Rattle.mt_replay.proofs.Comparisons.{matched, so_far, stands_ended, stands_failed, stands_differs, begun_on, tally_on, few_counted, stands_whole, some_bytes, feeds-parts}
 use Rattle.mt_replay.proofs.comparing.Comparison.compare_bytes.Goals as goal
 
 pub returns-in-Ok-false-clause-stands : goal.returns-in-Ok-false-clause-stands
