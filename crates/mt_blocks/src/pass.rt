@@ -71,7 +71,8 @@ pub fn following<T: HasSpan>(blocks: &[T], atomic: u32, at: Position) -> Option<
     ensures next { result ≡ next_of atomic (map T.span_of blocks.now) at }
     ensures valid { IfSome result (IsValid atomic (map T.span_of blocks.now)) }
     // The slices of a pass from a position on are its own, and then those from the next one on.
-    ensures rest { from_place atomic (map T.span_of blocks.now) at ≡ piece_at atomic (map T.span_of blocks.now) at ∷ from_next atomic (map T.span_of blocks.now) result }
+    ensures rest { from_place atomic (map T.span_of blocks.now) at
+        ≡ piece_at atomic (map T.span_of blocks.now) at ∷ from_next atomic (map T.span_of blocks.now) result }
 {
     next_place(blocks, atomic, at)
 }
@@ -133,10 +134,13 @@ pub fn or_start(next: Option<Position>) -> Position
 /// The position of a pass's first slice; none where there is no block.
 pub fn first_place<T: HasSpan>(blocks: &[T]) -> Option<Position>
     ensures first { result ≡ start_of (map T.span_of blocks.now) }
-    ensures valid { (K : ℕ) → AreSpans K (map T.span_of blocks.now) → IfSome result (IsValid K (map T.span_of blocks.now)) }
-    ensures all { (K : ℕ) → AreSpans K (map T.span_of blocks.now) → from_next K (map T.span_of blocks.now) result ≡ pass K (map T.span_of blocks.now) }
+    ensures valid { (K : ℕ) → AreSpans K (map T.span_of blocks.now)
+        → IfSome result (IsValid K (map T.span_of blocks.now)) }
+    ensures all { (K : ℕ) → AreSpans K (map T.span_of blocks.now)
+        → from_next K (map T.span_of blocks.now) result ≡ pass K (map T.span_of blocks.now) }
     // A pass has at most as many slices as words.
-    ensures few { (K : ℕ) → AreSpans K (map T.span_of blocks.now) → length (pass K (map T.span_of blocks.now)) ≤ 64 * 65536 }
+    ensures few { (K : ℕ) → AreSpans K (map T.span_of blocks.now)
+        → length (pass K (map T.span_of blocks.now)) ≤ 64 * 65536 }
 {
     if blocks.is_empty() {
         return None;

@@ -46,6 +46,17 @@ fn least_urgent(requests: &[Request]) -> Option<u32>
     least
 }
 
+// Moves the requests of one list into another, the last one first. What stood there is dropped.
+fn move_reversed(from: &mut ArrayVec<Request, 16>, to: &mut ArrayVec<Request, 16>)
+    ensures moved { to.new.items ≡ reverse from.old.items }
+    ensures empty { from.new.items ≡ [] }
+{
+    to.clear();
+    while let Some(request) = from.pop() {
+        to.push(request);
+    }
+}
+
 // Whether a least offset is due.
 fn is_due(least: Option<u32>, count: u32) -> bool
     ensures { result ≡ is_due count least }
@@ -110,7 +121,10 @@ impl SimBoard {
         requires { addr < (sim_state self.old).shape.ram }
         ensures word { result ≡ answered (sim_state self.old).fault (sim_state self.old).words addr }
         ensures fits { Fits (sim_state self.old).shape.width result }
-        ensures state { sim_state self.new ≡ record (sim_state self.old) { words = after (sim_state self.old).fault (sim_state self.old).words (Read addr) } }
+        ensures state { sim_state self.new
+            ≡ record (sim_state self.old) {
+              words = after (sim_state self.old).fault (sim_state self.old).words (Read addr);
+            } }
         ensures tape { sim_tape self.new ≡ sim_tape self.old }
     {
         match &mut self.stores {
@@ -124,7 +138,10 @@ impl SimBoard {
     fn store(&mut self, addr: u32, word: u64)
         requires addr { addr < (sim_state self.old).shape.ram }
         requires word { Fits (sim_state self.old).shape.width word }
-        ensures state { sim_state self.new ≡ record (sim_state self.old) { words = after (sim_state self.old).fault (sim_state self.old).words (Write addr word) } }
+        ensures state { sim_state self.new
+            ≡ record (sim_state self.old) {
+              words = after (sim_state self.old).fault (sim_state self.old).words (Write addr word);
+            } }
         ensures tape { sim_tape self.new ≡ sim_tape self.old }
     {
         match &mut self.stores {
@@ -265,9 +282,8 @@ impl Bench for SimBoard {
         Ok(())
     }
 
-    fn begin_event(&mut self, requests: ArrayVec<Request, 16>) {
-        self.later = requests;
-        self.later.as_mut_slice().reverse();
+    fn begin_event(&mut self, requests: &mut ArrayVec<Request, 16>) {
+        move_reversed(requests, &mut self.later);
         self.urgent = least_urgent(&self.later);
         self.taken = 0;
         self.count = 0;

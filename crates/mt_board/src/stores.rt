@@ -69,7 +69,8 @@ impl Stores {
         requires fits { Fits shape.width initial }
         ensures shape { IfOk result (λ s. shape_of (Some s) ≡ shape) }
         ensures fault { IfOk result (λ s. s.cells.fault ≡ fitting shape defect) }
-        ensures words { IfOk result (λ s. s.cells.words ≡ begun_words (fitting shape defect) (replicate shape.ram initial)) }
+        ensures words { IfOk result
+            (λ s. s.cells.words ≡ begun_words (fitting shape defect) (replicate shape.ram initial)) }
         ensures flash { IfOk result (λ s. s.flash.words ≡ replicate shape.flash (2 ^ width_bits shape.width - 1)) }
     {
         let cells = cells_with(alloc, shape, initial, defect)?;
@@ -138,7 +139,9 @@ impl Stores {
     /// Puts a fault into the RAM, or says why not.
     pub fn inject(&mut self, fault: Fault) -> Result<(), FaultRefusal>
         ensures answer { result ≡ injection self.old.cells fault }
-        ensures ok { OnOk result (self.new.cells ≡ record self.old.cells { fault = Some fault; words = first_words fault self.old.cells.words }) }
+        ensures ok { OnOk result
+            (self.new.cells
+            ≡ record self.old.cells { fault = Some fault; words = first_words fault self.old.cells.words }) }
         ensures err { OnErr result (self.new.cells ≡ self.old.cells) }
         ensures flash { SameFlash self.old self.new }
     {

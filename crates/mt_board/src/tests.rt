@@ -178,7 +178,8 @@ fn hands_out(rt: &impl Abort, board: &mut SimBoard, rows: &[Row])
     requires none { (sim_state board.old).left ≡ [] }
     requires inside { 0 < (sim_state board.old).shape.ram }
 {
-    board.begin_event(requests());
+    let mut requests = requests();
+    board.begin_event(&mut requests);
     for (reads, take, expected) in rows {
         assert!(rt; board.made() < 100);
         read_times(board, *reads);
@@ -192,7 +193,8 @@ fn sees_urgent(rt: &impl Abort, board: &mut SimBoard)
     requires none { (sim_state board.old).left ≡ [] }
     requires inside { 0 < (sim_state board.old).shape.ram }
 {
-    board.begin_event(requests());
+    let mut requests = requests();
+    board.begin_event(&mut requests);
     assert!(rt; !board.urgent_due());
     read_times(board, 5);
     assert!(rt; board.urgent_due());

@@ -60,18 +60,23 @@ pub extern "C" fn mt_due(test: &MtTest, access: &mut MtAccess) -> u32
 #[unsafe(no_mangle)]
 pub extern "C" fn mt_next(test: &mut MtTest, answer: u64, access: &mut MtAccess) -> u32
     ensures spoilt { (IsState test.old → ⊥) → result ≡ reply_number Reply.Spoilt }
-    ensures no_word { IsState test.old → is_no_answer (due (testing_of test.old)) (testing_of test.old).width answer ≡ true → result ≡ reply_number Reply.NoWord }
+    ensures no_word { IsState test.old
+        → is_no_answer (due (testing_of test.old)) (testing_of test.old).width answer ≡ true
+        → result ≡ reply_number Reply.NoWord }
     ensures stays { result ≡ reply_number Reply.Spoilt → test.new ≡ test.old }
     ensures due_still { result ≡ reply_number Reply.NoWord → test.new ≡ test.old }
     ensures untold { reply_number Reply.NoWord ≤ result → access.new ≡ access.old }
     ensures settings { test.new.settings ≡ test.old.settings }
     ensures text { text_of test.new ≡ text_of test.old }
     ensures state { IsState test.old → IsState test.new }
-    ensures answered { IsState test.old → is_no_answer (due (testing_of test.old)) (testing_of test.old).width answer ≡ false
+    ensures answered { IsState test.old
+        → is_no_answer (due (testing_of test.old)) (testing_of test.old).width answer ≡ false
         → testing_of test.new ≡ answered (testing_of test.old) answer }
-    ensures reply { IsState test.old → is_no_answer (due (testing_of test.old)) (testing_of test.old).width answer ≡ false
+    ensures reply { IsState test.old
+        → is_no_answer (due (testing_of test.old)) (testing_of test.old).width answer ≡ false
         → result ≡ reply_number (reply_of (due (testing_of test.new))) }
-    ensures access { IsState test.old → is_no_answer (due (testing_of test.old)) (testing_of test.old).width answer ≡ false
+    ensures access { IsState test.old
+        → is_no_answer (due (testing_of test.old)) (testing_of test.old).width answer ≡ false
         → access.new ≡ access_after (due (testing_of test.new)) access.old }
 {
     let Some(plan) = read_test(test) else {
@@ -103,16 +108,20 @@ pub extern "C" fn mt_may_break_off(test: &MtTest) -> u32
 #[unsafe(no_mangle)]
 pub extern "C" fn mt_break_off(test: &mut MtTest, access: &mut MtAccess) -> u32
     ensures spoilt { (IsState test.old → ⊥) → result ≡ reply_number Reply.Spoilt }
-    ensures too_late { IsState test.old → may_break_off (testing_of test.old) ≡ false → result ≡ reply_number Reply.TooLate }
+    ensures too_late { IsState test.old → may_break_off (testing_of test.old) ≡ false
+        → result ≡ reply_number Reply.TooLate }
     ensures stays { result ≡ reply_number Reply.Spoilt → test.new ≡ test.old }
     ensures goes_on { result ≡ reply_number Reply.TooLate → test.new ≡ test.old }
     ensures untold { reply_number Reply.NoWord ≤ result → access.new ≡ access.old }
     ensures settings { test.new.settings ≡ test.old.settings }
     ensures text { text_of test.new ≡ text_of test.old }
     ensures state { IsState test.old → IsState test.new }
-    ensures broken_off { IsState test.old → may_break_off (testing_of test.old) ≡ true → testing_of test.new ≡ broken_off (testing_of test.old) }
-    ensures reply { IsState test.old → may_break_off (testing_of test.old) ≡ true → result ≡ reply_number (reply_of (due (testing_of test.new))) }
-    ensures access { IsState test.old → may_break_off (testing_of test.old) ≡ true → access.new ≡ access_after (due (testing_of test.new)) access.old }
+    ensures broken_off { IsState test.old → may_break_off (testing_of test.old) ≡ true
+        → testing_of test.new ≡ broken_off (testing_of test.old) }
+    ensures reply { IsState test.old → may_break_off (testing_of test.old) ≡ true
+        → result ≡ reply_number (reply_of (due (testing_of test.new))) }
+    ensures access { IsState test.old → may_break_off (testing_of test.old) ≡ true
+        → access.new ≡ access_after (due (testing_of test.new)) access.old }
 {
     let Some(plan) = read_test(test) else {
         return Reply::Spoilt.number();
@@ -130,7 +139,8 @@ pub extern "C" fn mt_break_off(test: &mut MtTest, access: &mut MtAccess) -> u32
 #[unsafe(no_mangle)]
 pub extern "C" fn mt_accesses(test: &MtTest) -> u32
     ensures spoilt { (IsState test.now → ⊥) → result ≡ 0 }
-    ensures count { IsState test.now → result ≡ sequence_hold (testing_of test.now).known.job (testing_of test.now).known.slice.n }
+    ensures count { IsState test.now
+        → result ≡ sequence_hold (testing_of test.now).known.job (testing_of test.now).known.slice.n }
 {
     match read_test(test) {
         Some(plan) => plan.accesses(),

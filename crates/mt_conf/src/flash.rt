@@ -28,7 +28,9 @@ fn copy_last(table: &Table) -> i128
 }
 
 fn is_copy_within(flash: i64, table: &Table) -> bool
-    ensures { result ≡ (int_le (pos 0) (number_at (codes "copy") (table_view table.now)) && int_lt (copy_last (table_view table.now)) flash) }
+    ensures { result
+        ≡ (int_le (pos 0) (number_at (codes "copy") (table_view table.now))
+        && int_lt (copy_last (table_view table.now)) flash) }
 {
     0 <= number_at(table, "copy") && copy_last(table) < i128::from(flash)
 }

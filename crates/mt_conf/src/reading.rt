@@ -100,7 +100,8 @@ fn check(table: &Table) -> Result<(), ConfigRefusal>
 #[tactic(auto, unfolding(crate::specs::Outcome::document))]
 fn table_of(alloc: Global, bytes: &[u8]) -> Result<Table, ConfigRefusal>
     ensures ok { IfOk result (λ t. document bytes.now ≡ Some (table_view t)) }
-    ensures err { IfErr result (λ e. e ≢ ConfigRefusal.NoMemory → (e ≡ ConfigRefusal.NotToml) × (document bytes.now ≡ None)) }
+    ensures err { IfErr result (λ e. e ≢ ConfigRefusal.NoMemory
+        → (e ≡ ConfigRefusal.NotToml) × (document bytes.now ≡ None)) }
 {
     match std::str::from_utf8(bytes) {
         Err(_) => Err(ConfigRefusal::NotToml),

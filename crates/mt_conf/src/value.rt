@@ -72,7 +72,9 @@ fn block_in(width: Width, table: &Table) -> Block
 }
 
 fn policy_in(table: &Table) -> Policy
-    ensures { result ≡ (if is_named (codes "policy") (codes "destructive") (table_view table.now) then Destructive else NonDestructive) }
+    ensures { result
+        ≡ (if is_named (codes "policy") (codes "destructive") (table_view table.now)
+        then Destructive else NonDestructive) }
 {
     if is_named(table, "policy", "destructive") {
         Policy::Destructive
@@ -102,7 +104,8 @@ fn blocks_of(alloc: Global, width: Width, values: &[Value]) -> Result<Vec<Block>
 }
 
 fn blocks_in(alloc: Global, width: Width, table: &Table) -> Result<Vec<Block>, AllocError>
-    ensures { IfOk result (λ v. v.items ≡ map (λ d. block_of width (fields d)) (array_at (codes "block") (table_view table.now))) }
+    ensures { IfOk result
+        (λ v. v.items ≡ map (λ d. block_of width (fields d)) (array_at (codes "block") (table_view table.now))) }
 {
     blocks_of(alloc, width, array_at(table, "block"))
 }
@@ -179,7 +182,8 @@ fn sets_of(alloc: Global, width: Width, values: &[Value]) -> Result<Vec<ParamSet
 }
 
 fn sets_in(alloc: Global, width: Width, table: &Table) -> Result<Vec<ParamSet>, AllocError>
-    ensures { IfOk result (λ v. v.items ≡ map (λ d. set_of width (fields d)) (array_at (codes "set") (table_view table.now))) }
+    ensures { IfOk result
+        (λ v. v.items ≡ map (λ d. set_of width (fields d)) (array_at (codes "set") (table_view table.now))) }
 {
     sets_of(alloc, width, array_at(table, "set"))
 }
@@ -218,7 +222,8 @@ fn flash_blocks_of(alloc: Global, values: &[Value]) -> Result<Vec<FlashBlock>, A
 }
 
 fn flash_blocks_in(alloc: Global, table: &Table, key: &str) -> Result<Vec<FlashBlock>, AllocError>
-    ensures { IfOk result (λ v. v.items ≡ map (λ d. flash_block_of (fields d)) (array_at key.now (table_view table.now))) }
+    ensures { IfOk result
+        (λ v. v.items ≡ map (λ d. flash_block_of (fields d)) (array_at key.now (table_view table.now))) }
 {
     flash_blocks_of(alloc, array_at(table, key))
 }

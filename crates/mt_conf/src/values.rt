@@ -112,7 +112,9 @@ fn fls_has_wrong_count(table: &Table) -> bool
 }
 
 fn ram_part_has_wrong_count(table: &Table) -> bool
-    ensures { result ≡ (not (is_count 16 (length (array_at (codes "set") (table_view table.now)))) || any_set wrong_count_in_set (table_view table.now)) }
+    ensures { result
+        ≡ (not (is_count 16 (length (array_at (codes "set") (table_view table.now))))
+        || any_set wrong_count_in_set (table_view table.now)) }
 {
     !is_count(16, count_at(table, "set")) || any_table(table, "set", &set_has_wrong_count)
 }

@@ -202,7 +202,8 @@ fn write_sets<K: Sink>(
 ) -> Result<(), Failed>
     requires { All (IsAcceptedSet shape) sets.now }
     ensures ok { OnOk result (Appends (K.held sink.old) (K.held sink.new) (sets_text version shape.width sets.now)) }
-    ensures err { OnErr result (AppendsFront (K.held sink.old) (K.held sink.new) (sets_text version shape.width sets.now)) }
+    ensures err { OnErr result
+        (AppendsFront (K.held sink.old) (K.held sink.new) (sets_text version shape.width sets.now)) }
     ensures cause { HasCause (K.faults sink.old) (K.faults sink.new) result }
 {
     for set in sets {

@@ -59,7 +59,9 @@ pub fn run_from(set: &ParamSet, at: Position, budget: u32) -> Option<Run>
     ensures run { IfSome result (IsRun budget set.now at) }
     ensures some { IfSome result (λ run. 1 ≤ run.slices) }
     // It is the first of the longest runs from there.
-    ensures cut { IfSome result (λ run. longest_runs budget (holds_from set.now at) ≡ run.slices ∷ longest_runs budget (holds_next set.now run.next)) }
+    ensures cut { IfSome result (λ run.
+        longest_runs budget (holds_from set.now at)
+        ≡ run.slices ∷ longest_runs budget (holds_next set.now run.next)) }
     ensures none { result ≡ None ↔ (budget < slice_index (holds_from set.now at) 0) }
 {
     if step_at(set, at).hold > budget {

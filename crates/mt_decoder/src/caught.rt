@@ -51,7 +51,8 @@ pub fn caught_at(
     requires background { Fits cells.old.width background }
     requires accepted { IsAccepted alg.now }
     requires fixed { alg.now ≢ Algorithm.TransparentGalpat }
-    ensures index { result ≡ first_miss cells.old.fault cells.old.words (accesses cells.old.width alg.now background first n) }
+    ensures index { result
+        ≡ first_miss cells.old.fault cells.old.words (accesses cells.old.width alg.now background first n) }
     ensures after { cells.new ≡ record cells.old {
       words = words_after cells.old.fault cells.old.words (history (accesses cells.old.width alg.now background first n));
     } }

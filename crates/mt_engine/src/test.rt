@@ -124,7 +124,8 @@ impl Plan {
     fn ending_from(&self) -> u32
         requires { IsPlan self.now }
         ensures place { result ≡ self.now.slice.n + length (steps_of self.now.job.alg self.now.slice.n) }
-        ensures hold { self.now.job.policy ≡ Policy.NonDestructive → result + self.now.slice.n ≡ sequence_hold self.now.job self.now.slice.n }
+        ensures hold { self.now.job.policy ≡ Policy.NonDestructive
+            → result + self.now.slice.n ≡ sequence_hold self.now.job self.now.slice.n }
     {
         let n = u32::from(self.slice.n);
         n + steps(&self.job.alg, n)
@@ -149,7 +150,14 @@ impl Plan {
     /// Whether a test that was broken off may stand behind so many accesses.
     fn may_stand_broken(&self, made: u32) -> bool
         requires plan { IsPlan self.now }
-        ensures { (saved : List ℕ) (differs : Bool) → result ≡ is_where_broken (record { job = self.now.job; slice = self.now.slice; made = made; saved = saved; differs = differs }) }
+        ensures { (saved : List ℕ) (differs : Bool)
+            → result ≡ is_where_broken (record {
+              job = self.now.job;
+              slice = self.now.slice;
+              made = made;
+              saved = saved;
+              differs = differs;
+            }) }
     {
         match self.job.policy {
             Policy::NonDestructive => made <= u32::from(self.slice.n) || self.ending_from() <= made,
@@ -171,7 +179,8 @@ impl Plan {
         requires left { is_over (testing self.now at places.now) ≡ false }
         requires places { 64 ≤ length places.now }
         ensures item { item_at self.now.width (testing self.now at places.now).known ≡ Some (item_of_access result) }
-        ensures saving { self.now.job.policy ≡ Policy.NonDestructive → at.made < self.now.slice.n → result ≡ Access.Look (self.now.slice.first + at.made) }
+        ensures saving { self.now.job.policy ≡ Policy.NonDestructive → at.made < self.now.slice.n
+            → result ≡ Access.Look (self.now.slice.first + at.made) }
         ensures behind { self.now.slice.n ≤ at.made → IsNoLook (item_of_access result) }
         ensures filling { self.now.job.policy ≡ Policy.Destructive → IsNoLook (item_of_access result) }
     {
@@ -211,10 +220,13 @@ impl Plan {
     pub fn answer(&self, at: Moment, places: &mut [u64], word: u64) -> Result<Moment, NoWord>
         requires test { IsTest (testing self.now at places.old) }
         requires places { length places.old ≡ 64 }
-        ensures ok { IfOk result (λ next. testing self.now next places.new ≡ answered (testing self.now at places.old) word) }
+        ensures ok { IfOk result
+            (λ next. testing self.now next places.new ≡ answered (testing self.now at places.old) word) }
         ensures test { IfOk result (λ next. IsTest (testing self.now next places.new)) }
-        ensures word { IfOk result (λ _. is_no_answer (due (testing self.now at places.old)) self.now.width word ≡ false) }
-        ensures err { IfErr result (λ _. is_no_answer (due (testing self.now at places.old)) self.now.width word ≡ true) }
+        ensures word { IfOk result
+            (λ _. is_no_answer (due (testing self.now at places.old)) self.now.width word ≡ false) }
+        ensures err { IfErr result
+            (λ _. is_no_answer (due (testing self.now at places.old)) self.now.width word ≡ true) }
         ensures stays { IfErr result (λ _. places.new ≡ places.old) }
     {
         sequences_are_short();
@@ -250,7 +262,8 @@ impl Plan {
         requires plan { IsPlan self.now }
         requires may { may_break_off (testing self.now at []) ≡ true }
         ensures moment { (places : List ℕ) → testing self.now result places ≡ broken_off (testing self.now at places) }
-        ensures test { (places : List ℕ) → IsTest (testing self.now at places) → IsTest (testing self.now result places) }
+        ensures test { (places : List ℕ) → IsTest (testing self.now at places)
+            → IsTest (testing self.now result places) }
     {
         Moment {
             made: if u32::from(self.slice.n) < at.made {

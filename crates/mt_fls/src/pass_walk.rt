@@ -40,7 +40,8 @@ impl Fls {
     // How many slices the group at a position has; none where there is no background block.
     fn group_len_at(&self, at: Position) -> u32
         requires { IsPointed self.now.setting.config at }
-        ensures group { group_at self.now at ≡ take result (from_place self.now.setting.config.atomic (bgnd_spans self.now) at) }
+        ensures group { group_at self.now at
+            ≡ take result (from_place self.now.setting.config.atomic (bgnd_spans self.now) at) }
         ensures inside { result ≤ length (from_place self.now.setting.config.atomic (bgnd_spans self.now) at) }
         ensures valid { 0 < result → IsValid self.now.setting.config.atomic (bgnd_spans self.now) at }
         ensures few { result ≤ 65536 }

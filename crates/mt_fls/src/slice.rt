@@ -38,11 +38,13 @@ fn run_sequence<P: Port>(
     requires blocks { All (IsAcceptedFlashBlock (P.state port.old).shape) blocks.now }
     requires spans { AreSpans atomic (flash_spans blocks.now) }
     requires valid { IsValid atomic (flash_spans blocks.now) at }
-    requires room { (P.state port.old).count + compare_hold (piece_at atomic (flash_spans blocks.now) at).slice.n < 2 ^ 32 }
+    requires room { (P.state port.old).count + compare_hold (piece_at atomic (flash_spans blocks.now) at).slice.n
+        < 2 ^ 32 }
     ensures verdict { Some result
         ≡ (attempt_at blocks.now (piece_at atomic (flash_spans blocks.now) at) (P.state port.old)).verdict }
     ensures state { P.state port.new
-        ≡ attempted (attempt_at blocks.now (piece_at atomic (flash_spans blocks.now) at) (P.state port.old)) (P.state port.old) }
+        ≡ attempted (attempt_at blocks.now (piece_at atomic (flash_spans blocks.now) at) (P.state port.old))
+        (P.state port.old) }
     ensures tape { Logs (P.tape port.old) (P.tape port.new)
         (attempt_at blocks.now (piece_at atomic (flash_spans blocks.now) at) (P.state port.old)).touches }
 {
@@ -155,7 +157,11 @@ impl Fls {
 
     // The details after a sequence of the pass.
     fn take_bgnd_detail(&mut self, at: Position, difference: Option<u32>)
-        ensures { self.new ≡ record self.old { detail = detail_after Bgnd (piece_at self.old.setting.config.atomic (bgnd_spans self.old) at) difference self.old.detail } }
+        ensures { self.new
+            ≡ record self.old {
+              detail = detail_after Bgnd (piece_at self.old.setting.config.atomic (bgnd_spans self.old) at)
+                  difference self.old.detail;
+            } }
     {
         if let Some(addr) = difference {
             self.detail = Detail::Bgnd {
@@ -168,7 +174,8 @@ impl Fls {
     /// What the end of a slice of the pass leaves.
     pub(crate) fn take_bgnd(&mut self, at: Position, difference: Option<u32>)
         requires { IsValid self.old.setting.config.atomic (bgnd_spans self.old) at }
-        ensures { self.new ≡ passed self.old (piece_at self.old.setting.config.atomic (bgnd_spans self.old) at) difference }
+        ensures { self.new
+            ≡ passed self.old (piece_at self.old.setting.config.atomic (bgnd_spans self.old) at) difference }
     {
         let failed = self.failed || is_different(difference);
         let next = self.next_of_pass(at);
@@ -194,7 +201,8 @@ impl Fls {
     /// What the end of a slice of a foreground test leaves, where an earlier slice of it failed or not.
     pub(crate) fn take_fgnd(&mut self, at: Position, difference: Option<u32>, failed: bool)
         requires { IsValid self.old.setting.config.atomic (fgnd_spans self.old) at }
-        ensures { self.new ≡ compared self.old (piece_at self.old.setting.config.atomic (fgnd_spans self.old) at) difference failed }
+        ensures { self.new
+            ≡ compared self.old (piece_at self.old.setting.config.atomic (fgnd_spans self.old) at) difference failed }
     {
         if let Some(addr) = difference {
             self.detail = Detail::Fgnd {

@@ -189,7 +189,8 @@ fn list_one<K: Sink>(
     requires scratch { cells.old ≡ scratch_of syndrome.now.probe.now }
     requires told { syndrome.now.evidence ≡ evidence_of syndrome.now.probe.now syndrome.now.misses.now }
     requires expected { ExpectedFits syndrome.now.probe.now.width syndrome.now.evidence }
-    requires inside { IsFaultOfSlice syndrome.now.probe.now.width syndrome.now.probe.now.first syndrome.now.probe.now.n fault }
+    requires inside { IsFaultOfSlice syndrome.now.probe.now.width syndrome.now.probe.now.first
+        syndrome.now.probe.now.n fault }
     ensures lists { Lists syndrome.now.probe.now syndrome.now.misses.now (fault ∷ [])
         (change (K.held sink.old) (K.held sink.new) (K.faults sink.old) (K.faults sink.new)) result }
     ensures few { IfOk result (λ n. n ≤ 1) }
@@ -218,8 +219,10 @@ fn list_two<K: Sink>(
     requires scratch { cells.old ≡ scratch_of syndrome.now.probe.now }
     requires told { syndrome.now.evidence ≡ evidence_of syndrome.now.probe.now syndrome.now.misses.now }
     requires expected { ExpectedFits syndrome.now.probe.now.width syndrome.now.evidence }
-    requires one { IsFaultOfSlice syndrome.now.probe.now.width syndrome.now.probe.now.first syndrome.now.probe.now.n one }
-    requires other { IsFaultOfSlice syndrome.now.probe.now.width syndrome.now.probe.now.first syndrome.now.probe.now.n other }
+    requires one { IsFaultOfSlice syndrome.now.probe.now.width syndrome.now.probe.now.first syndrome.now.probe.now.n
+        one }
+    requires other { IsFaultOfSlice syndrome.now.probe.now.width syndrome.now.probe.now.first
+        syndrome.now.probe.now.n other }
     ensures lists { Lists syndrome.now.probe.now syndrome.now.misses.now (one ∷ other ∷ [])
         (change (K.held sink.old) (K.held sink.new) (K.faults sink.old) (K.faults sink.new)) result }
     ensures few { IfOk result (λ n. n ≤ 2) }
@@ -241,7 +244,9 @@ fn list_few<K: Sink>(
     requires scratch { cells.old ≡ scratch_of syndrome.now.probe.now }
     requires told { syndrome.now.evidence ≡ evidence_of syndrome.now.probe.now syndrome.now.misses.now }
     requires expected { ExpectedFits syndrome.now.probe.now.width syndrome.now.evidence }
-    requires inside { AllByRecursion (IsFaultOfSlice syndrome.now.probe.now.width syndrome.now.probe.now.first syndrome.now.probe.now.n) (faults_in faults) }
+    requires inside { AllByRecursion
+        (IsFaultOfSlice syndrome.now.probe.now.width syndrome.now.probe.now.first syndrome.now.probe.now.n)
+        (faults_in faults) }
     ensures lists { Lists syndrome.now.probe.now syndrome.now.misses.now (faults_in faults)
         (change (K.held sink.old) (K.held sink.new) (K.faults sink.old) (K.faults sink.new)) result }
     ensures few { IfOk result (λ n. n ≤ 2) }
@@ -560,9 +565,11 @@ pub fn list_faults<K: Sink>(
     requires scratch { cells.old ≡ scratch_of probe.now }
     requires width { shape.width ≡ probe.now.width }
     requires inside { probe.now.first + probe.now.n ≤ shape.ram }
-    ensures ok { OnOk result (Appends (K.held sink.old) (K.held sink.new) (fault_lines shape.width (located probe.now misses.now))) }
+    ensures ok { OnOk result
+        (Appends (K.held sink.old) (K.held sink.new) (fault_lines shape.width (located probe.now misses.now))) }
     ensures number { IfOk result (λ n. n ≡ length (located probe.now misses.now)) }
-    ensures err { OnErr result (AppendsFront (K.held sink.old) (K.held sink.new) (fault_lines shape.width (located probe.now misses.now))) }
+    ensures err { OnErr result
+        (AppendsFront (K.held sink.old) (K.held sink.new) (fault_lines shape.width (located probe.now misses.now))) }
     ensures cause { HasCause (K.faults sink.old) (K.faults sink.new) result }
     ensures after { cells.new ≡ scratch_of probe.now }
 {

@@ -63,7 +63,8 @@ fn finish(builder: Builder) -> ArrayVec<Element, 16>
 
 fn begin(builder: Builder, order: Order) -> Builder
     requires { element_count builder < 16 }
-    ensures whole { (later : List Op × List Element) → finished result later ≡ finished builder ([], element order later.0 ∷ later.1) }
+    ensures whole { (later : List Op × List Element)
+        → finished result later ≡ finished builder ([], element order later.0 ∷ later.1) }
     ensures elements { element_count result ≡ element_count builder + 1 }
     ensures ops { length result.ops.items ≡ 0 }
 {
@@ -76,7 +77,8 @@ fn begin(builder: Builder, order: Order) -> Builder
 
 fn add(builder: Builder, op: Op) -> Builder
     requires { length builder.ops.items < 8 }
-    ensures whole { (later : List Op × List Element) → finished result later ≡ finished builder (op ∷ later.0, later.1) }
+    ensures whole { (later : List Op × List Element)
+        → finished result later ≡ finished builder (op ∷ later.0, later.1) }
     ensures elements { element_count result ≡ element_count builder }
     ensures ops { length result.ops.items ≡ length builder.ops.items + 1 }
 {
@@ -89,8 +91,11 @@ fn step(builder: Builder, byte: u8, after: u8) -> Builder
     requires elements { is_order byte ≡ true → element_count builder < 16 }
     requires ops { is_order byte ≡ false → is_letter byte ≡ true → length builder.ops.items < 8 }
     ensures whole { (later : List Op × List Element) → finished result later ≡ finished builder (put byte after later) }
-    ensures elements { element_count result ≡ (if is_order byte then element_count builder + 1 else element_count builder) }
-    ensures ops { length result.ops.items ≡ (if is_order byte then 0 else (if is_letter byte then length builder.ops.items + 1 else length builder.ops.items)) }
+    ensures elements { element_count result
+        ≡ (if is_order byte then element_count builder + 1 else element_count builder) }
+    ensures ops { length result.ops.items
+        ≡ (if is_order byte then 0
+        else (if is_letter byte then length builder.ops.items + 1 else length builder.ops.items)) }
 {
     match byte {
         b'u' | b'd' | b'*' => begin(builder, order_of(byte)),

@@ -49,7 +49,8 @@ fn push_ops(out: &mut Text, ops: &[Op])
     requires some { IsNonEmpty ops.now }
     requires few { length ops.now ≤ 8 }
     requires room { length out.old.items + 24 ≤ 448 }
-    ensures text { (tokens : List Token) → out.new.items ++ text_of tokens ≡ out.old.items ++ text_of (all_ops ops.now tokens) }
+    ensures text { (tokens : List Token)
+        → out.new.items ++ text_of tokens ≡ out.old.items ++ text_of (all_ops ops.now tokens) }
     ensures len { length out.new.items ≤ length out.old.items + 24 }
 {
     if let [first, rest @ ..] = ops {
@@ -65,7 +66,8 @@ fn push_ops(out: &mut Text, ops: &[Op])
 fn push_element(out: &mut Text, element: &Element)
     requires some { IsNonEmpty element.now.ops.items }
     requires room { length out.old.items + 26 ≤ 448 }
-    ensures text { (tokens : List Token) → out.new.items ++ text_of tokens ≡ out.old.items ++ text_of (element_tokens element.now tokens) }
+    ensures text { (tokens : List Token)
+        → out.new.items ++ text_of tokens ≡ out.old.items ++ text_of (element_tokens element.now tokens) }
     ensures len { length out.new.items ≤ length out.old.items + 26 }
 {
     push_order(out, element.order);

@@ -123,7 +123,8 @@ impl Steps {
         requires cursor { IsCursor _algorithm.now self.now }
         requires left { made_by self.now < length (steps_of _algorithm.now (cells_of self.now)) }
         ensures begins { result ≡ begins_span self.now }
-        ensures next { result ≡ true → Continues (steps_of _algorithm.now (cells_of self.now)) (made_by self.now) (span_of self.now) }
+        ensures next { result ≡ true
+            → Continues (steps_of _algorithm.now (cells_of self.now)) (made_by self.now) (span_of self.now) }
     {
         if self.line.is_on_cell() {
             self.place.row == 0 && self.place.at == 0

@@ -58,7 +58,9 @@ fn round_place(n: u32, base_len: u32, i: u32) -> Place
     ensures part { result.part < 2 }
     ensures row { result.row < n + 1 }
     ensures first { result.row ≡ 0 → (result.at < n) × (result.part * (n + n * base_len) + result.at ≡ i) }
-    ensures later { 1 ≤ result.row → (result.at < base_len) × (result.part * (n + n * base_len) + (n + (result.row - 1) * base_len) + result.at ≡ i) }
+    ensures later { 1 ≤ result.row
+        → (result.at < base_len)
+        × (result.part * (n + n * base_len) + (n + (result.row - 1) * base_len) + result.at ≡ i) }
 {
     let round = n + n * base_len;
     let part = i / round;

@@ -22,7 +22,12 @@ pub struct PassWalk {
 
 // A tick that tests nothing.
 fn idle(decision: Decision) -> PassWalk
-    ensures { result ≡ record { at = record { block = 0; offset = 0 }; len = 0; entered = record { decision = decision; back = None } } }
+    ensures { result
+        ≡ record {
+          at = record { block = 0; offset = 0 };
+          len = 0;
+          entered = record { decision = decision; back = None };
+        } }
 {
     PassWalk {
         at: Position {

@@ -57,7 +57,8 @@ impl Ram {
         requires start { (P.state port.old).count ≡ 0 }
         ensures event { record { after = scene (P.state port.new) self.new log.new; reply = result }
             ≡ event ticking (scene (P.state port.old) self.old log.old) }
-        ensures tape { Logs (P.tape port.old) (P.tape port.new) (event_touches ticking (scene (P.state port.old) self.old log.old)) }
+        ensures tape { Logs (P.tape port.old) (P.tape port.new)
+            (event_touches ticking (scene (P.state port.old) self.old log.old)) }
         ensures setting { self.new.setting ≡ self.old.setting }
         ensures shape { (P.state port.new).shape ≡ (P.state port.old).shape }
         ensures none { (P.state port.new).left ≡ [] }
@@ -74,7 +75,8 @@ impl Ram {
         requires start { (P.state port.old).count ≡ 0 }
         ensures event { record { after = scene (P.state port.new) self.new log.new; reply = result }
             ≡ event full_test (scene (P.state port.old) self.old log.old) }
-        ensures tape { Logs (P.tape port.old) (P.tape port.new) (event_touches full_test (scene (P.state port.old) self.old log.old)) }
+        ensures tape { Logs (P.tape port.old) (P.tape port.new)
+            (event_touches full_test (scene (P.state port.old) self.old log.old)) }
         ensures setting { self.new.setting ≡ self.old.setting }
         ensures shape { (P.state port.new).shape ≡ (P.state port.old).shape }
         ensures none { (P.state port.new).left ≡ [] }
@@ -91,7 +93,8 @@ impl Ram {
         requires start { (P.state port.old).count ≡ 0 }
         ensures event { record { after = scene (P.state port.new) self.new log.new; reply = result }
             ≡ event (partial_test block) (scene (P.state port.old) self.old log.old) }
-        ensures tape { Logs (P.tape port.old) (P.tape port.new) (event_touches (partial_test block) (scene (P.state port.old) self.old log.old)) }
+        ensures tape { Logs (P.tape port.old) (P.tape port.new)
+            (event_touches (partial_test block) (scene (P.state port.old) self.old log.old)) }
         ensures setting { self.new.setting ≡ self.old.setting }
         ensures shape { (P.state port.new).shape ≡ (P.state port.old).shape }
         ensures none { (P.state port.new).left ≡ [] }

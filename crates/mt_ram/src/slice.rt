@@ -39,13 +39,17 @@ impl Ram {
         requires free { (P.state port.old).held ≡ false }
         requires shape { (P.state port.old).shape ≡ self.now.setting.shape }
         requires valid { IsValid (set_of self.now).atomic (spans_in self.now) at }
-        requires room { (P.state port.old).count + sequence_hold (job_of self.now (piece_in self.now at)) (piece_in self.now at).slice.n < 2 ^ 32 }
+        requires room { (P.state port.old).count
+            + sequence_hold (job_of self.now (piece_in self.now at)) (piece_in self.now at).slice.n < 2 ^ 32 }
         ensures verdict { result ≡ (attempt_at may self.now (piece_in self.now at) (P.state port.old)).verdict }
-        ensures state { P.state port.new ≡ attempted (attempt_at may self.now (piece_in self.now at) (P.state port.old)) (P.state port.old) }
-        ensures tape { Logs (P.tape port.old) (P.tape port.new) (attempt_at may self.now (piece_in self.now at) (P.state port.old)).touches }
+        ensures state { P.state port.new
+            ≡ attempted (attempt_at may self.now (piece_in self.now at) (P.state port.old)) (P.state port.old) }
+        ensures tape { Logs (P.tape port.old) (P.tape port.new)
+            (attempt_at may self.now (piece_in self.now at) (P.state port.old)).touches }
         ensures short { (attempt_at may self.now (piece_in self.now at) (P.state port.old)).count
             ≤ sequence_hold (job_of self.now (piece_in self.now at)) (piece_in self.now at).slice.n }
-        ensures hold { sequence_hold (job_of self.now (piece_in self.now at)) (piece_in self.now at).slice.n ≤ 262 * 64 }
+        ensures hold { sequence_hold (job_of self.now (piece_in self.now at)) (piece_in self.now at).slice.n
+            ≤ 262 * 64 }
         ensures whole { may ≡ false → is_some result ≡ true }
         ensures due { is_some result ≡ false → is_urgent_due (P.state port.new).count (P.state port.new).left ≡ true }
     {

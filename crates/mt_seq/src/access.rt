@@ -30,7 +30,8 @@ impl Access {
         requires inside { place_of self < (P.state port.old).shape.ram }
         requires fits { FitsAccess (P.state port.old).shape.width self }
         requires room { (P.state port.old).count + 1 < 2 ^ 32 }
-        ensures made { Makes (item_of_access self ∷ []) (P.state port.old) (P.state port.new) (P.tape port.old) (P.tape port.new)
+        ensures made { Makes (item_of_access self ∷ []) (P.state port.old) (P.state port.new) (P.tape port.old)
+            (P.tape port.new)
             (agreed (item_of_access self) result) }
         ensures looked { IsLookAnswer (P.state port.old) (item_of_access self) result }
     {
@@ -51,7 +52,8 @@ impl Access {
         requires inside { place_of self < (P.state port.old).shape.ram }
         requires fits { FitsAccess (P.state port.old).shape.width self }
         requires room { (P.state port.old).count + 1 < 2 ^ 32 }
-        ensures { Makes (item_of_access self ∷ []) (P.state port.old) (P.state port.new) (P.tape port.old) (P.tape port.new) result }
+        ensures { Makes (item_of_access self ∷ []) (P.state port.old) (P.state port.new) (P.tape port.old)
+            (P.tape port.new) result }
     {
         let answer = self.make(port);
         self.agrees(answer)

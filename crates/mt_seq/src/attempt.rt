@@ -97,7 +97,8 @@ fn make_part<P: Port>(port: &mut P, alg: &Algorithm, frame: Frame, slice: Slice,
     requires keeps { frame.policy ≡ Policy.NonDestructive }
     requires until { until < slice.n + length (steps_of alg.now slice.n) }
     requires room { (P.state port.old).count + sequence_hold (job_of alg.now frame) slice.n < 2 ^ 32 }
-    ensures { Makes (backed_out (P.state port.old) (job_of alg.now frame) slice until) (P.state port.old) (P.state port.new) (P.tape port.old) (P.tape port.new)
+    ensures { Makes (backed_out (P.state port.old) (job_of alg.now frame) slice until) (P.state port.old)
+        (P.state port.new) (P.tape port.old) (P.tape port.new)
         (passes (P.state port.old).fault (P.state port.old).words [] (backed_out (P.state port.old) (job_of alg.now frame) slice until)) }
 {
     let mut course = Course::new(alg, frame, slice);
@@ -126,7 +127,8 @@ pub fn try_slice<P: Port>(
       count = (P.state port.old).count + attempt_length may (P.state port.old) (job_of alg.now frame) slice;
       since = (P.state port.old).count;
     } }
-    ensures tape { Logs (P.tape port.old) (P.tape port.new) (attempt_touches may (P.state port.old) (job_of alg.now frame) slice) }
+    ensures tape { Logs (P.tape port.old) (P.tape port.new)
+        (attempt_touches may (P.state port.old) (job_of alg.now frame) slice) }
 {
     match dropped_at(port, alg, frame, slice, may) {
         None => {
@@ -160,7 +162,8 @@ pub fn run_slice<P: Port>(port: &mut P, job: &Job, slice: Slice) -> Verdict
     ensures tape { Logs (P.tape port.old) (P.tape port.new) (sequence_touches (P.state port.old) job.now slice) }
     // On sound memory.
     ensures passes { (P.state port.old).fault ≡ None → result ≡ Verdict.Pass }
-    ensures stays { (P.state port.old).fault ≡ None → (P.state port.new).words ≡ left_words (P.state port.old).words job.now.policy slice job.now.fill }
+    ensures stays { (P.state port.old).fault ≡ None
+        → (P.state port.new).words ≡ left_words (P.state port.old).words job.now.policy slice job.now.fill }
 {
     port.hold();
     let pass = make_whole(port, &job.alg, job.frame(), slice);

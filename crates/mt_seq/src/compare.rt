@@ -12,7 +12,8 @@ fn differs<P: Port>(port: &mut P, addr: u32, copy: u32) -> bool
     requires word { addr < (P.state port.old).shape.flash }
     requires inside { copy < (P.state port.old).shape.flash }
     requires room { (P.state port.old).count + 2 < 2 ^ 32 }
-    ensures answer { result ≡ not (slice_index (P.state port.old).flash addr == slice_index (P.state port.old).flash copy) }
+    ensures answer { result
+        ≡ not (slice_index (P.state port.old).flash addr == slice_index (P.state port.old).flash copy) }
     ensures state { P.state port.new ≡ record (P.state port.old) { count = (P.state port.old).count + 2 } }
     ensures tape { Logs (P.tape port.old) (P.tape port.new) (Touch.Flash addr ∷ Touch.Flash copy ∷ []) }
 {

@@ -109,7 +109,8 @@ impl Course {
 
     /// Whether accesses are left, and if none is, the verdict.
     pub fn progress(&self) -> Progress
-        ensures { (job : Job) → IsCourse job self.now → result ≡ progress_of (sequence_hold job self.now.slice.n - self.now.made) (view_of job self.now) }
+        ensures { (job : Job) → IsCourse job self.now
+            → result ≡ progress_of (sequence_hold job self.now.slice.n - self.now.made) (view_of job self.now) }
     {
         if self.made < self.ending_from {
             return Progress::More;
@@ -226,7 +227,8 @@ impl Course {
     fn looked(&mut self, answer: u64)
         requires room { length self.old.saved.items < 64 }
         requires few { self.old.made < 2 ^ 32 - 1 }
-        ensures { (job : Job) (addr : ℕ) → IsCourse job self.old → self.old.made < self.old.testing_from → IsMoved job self.old (Look addr) answer self.new }
+        ensures { (job : Job) (addr : ℕ) → IsCourse job self.old → self.old.made < self.old.testing_from
+            → IsMoved job self.old (Look addr) answer self.new }
     {
         self.saved.push(answer);
         self.made += 1;
@@ -239,7 +241,8 @@ impl Course {
         requires left { made_by self.old.steps < length (steps_of alg.now (cells_of self.old.steps)) }
         requires few { self.old.made < 2 ^ 32 - 1 }
         requires kind { IsNoLook (item_of_access access) }
-        ensures { (job : Job) → job.alg ≡ alg.now → IsCourse job self.old → self.old.testing_from ≤ self.old.made → self.old.made < self.old.ending_from
+        ensures { (job : Job) → job.alg ≡ alg.now → IsCourse job self.old → self.old.testing_from ≤ self.old.made
+            → self.old.made < self.old.ending_from
             → IsMoved job self.old (item_of_access access) answer self.new }
     {
         self.steps.advance(alg);
@@ -251,7 +254,8 @@ impl Course {
     #[inline(always)]
     fn stored(&mut self)
         requires few { self.old.made < 2 ^ 32 - 1 }
-        ensures { (job : Job) (addr word answer : ℕ) → IsCourse job self.old → self.old.ending_from ≤ self.old.made → self.old.made < self.old.ending_from + self.old.slice.n
+        ensures { (job : Job) (addr word answer : ℕ) → IsCourse job self.old → self.old.ending_from ≤ self.old.made
+            → self.old.made < self.old.ending_from + self.old.slice.n
             → IsMoved job self.old (Store addr word) answer self.new }
     {
         self.made += 1;
@@ -285,7 +289,8 @@ impl Course {
         requires ready { IsReady (P.state port.old) (view_of (job_of alg.now frame) self.old) 1 }
         requires phase { self.old.made < self.old.testing_from }
         ensures course { IsCourse (job_of alg.now frame) self.new }
-        ensures step { IsStepOf (job_of alg.now frame) self.old (P.state port.old) (P.tape port.old) self.new (P.state port.new) (P.tape port.new) }
+        ensures step { IsStepOf (job_of alg.now frame) self.old (P.state port.old) (P.tape port.old) self.new
+            (P.state port.new) (P.tape port.new) }
     {
         let access = self.look();
         let answer = access.make(port);
@@ -301,7 +306,8 @@ impl Course {
         requires from { self.old.testing_from ≤ self.old.made }
         requires to { self.old.made < self.old.ending_from }
         ensures course { IsCourse (job_of alg.now frame) self.new }
-        ensures step { IsStepOf (job_of alg.now frame) self.old (P.state port.old) (P.tape port.old) self.new (P.state port.new) (P.tape port.new) }
+        ensures step { IsStepOf (job_of alg.now frame) self.old (P.state port.old) (P.tape port.old) self.new
+            (P.state port.new) (P.tape port.new) }
     {
         let access = self.test(alg, frame, width);
         let answer = access.make(port);
@@ -314,7 +320,9 @@ impl Course {
         requires cursor { IsCursor alg.now self.now.steps }
         requires left { made_by self.now.steps < length (steps_of alg.now (cells_of self.now.steps)) }
         ensures begins { result ≡ true → begins_span self.now.steps ≡ true }
-        ensures next { result ≡ true → Continues (steps_of alg.now (cells_of self.now.steps)) (made_by self.now.steps) (span_of self.now.steps) }
+        ensures next { result ≡ true
+            → Continues (steps_of alg.now (cells_of self.now.steps)) (made_by self.now.steps)
+            (span_of self.now.steps) }
         ensures some { result ≡ true → 1 ≤ length (span_of self.now.steps) }
         ensures fits { result ≡ true → length (span_of self.now.steps) ≤ most }
     {
@@ -325,11 +333,13 @@ impl Course {
     #[inline(always)]
     fn make_span<P: Port>(&self, port: &mut P, alg: &Algorithm, frame: Frame, width: Width) -> bool
         requires course { IsCourse (job_of alg.now frame) self.now }
-        requires ready { IsReady (P.state port.old) (view_of (job_of alg.now frame) self.now) (length (span_of self.now.steps)) }
+        requires ready { IsReady (P.state port.old) (view_of (job_of alg.now frame) self.now)
+            (length (span_of self.now.steps)) }
         requires width { width ≡ (P.state port.old).shape.width }
         requires from { self.now.testing_from ≤ self.now.made }
         requires to { self.now.made < self.now.ending_from }
-        ensures { Makes (map (item_of width self.now.slice.first (back_of (job_of alg.now frame) self.now.saved.items)) (span_of self.now.steps))
+        ensures { Makes (map (item_of width self.now.slice.first (back_of (job_of alg.now frame) self.now.saved.items))
+            (span_of self.now.steps))
             (P.state port.old) (P.state port.new) (P.tape port.old) (P.tape port.new) result }
     {
         spans_are_counted();
@@ -365,15 +375,18 @@ impl Course {
     #[inline(always)]
     fn test_span<P: Port>(&mut self, port: &mut P, alg: &Algorithm, frame: Frame, width: Width)
         requires course { IsCourse (job_of alg.now frame) self.old }
-        requires ready { IsReady (P.state port.old) (view_of (job_of alg.now frame) self.old) (length (span_of self.old.steps)) }
+        requires ready { IsReady (P.state port.old) (view_of (job_of alg.now frame) self.old)
+            (length (span_of self.old.steps)) }
         requires width { width ≡ (P.state port.old).shape.width }
         requires from { self.old.testing_from ≤ self.old.made }
         requires to { self.old.made + length (span_of self.old.steps) ≤ self.old.ending_from }
         requires some { 1 ≤ length (span_of self.old.steps) }
         requires begins { begins_span self.old.steps ≡ true }
-        requires next { Continues (steps_of alg.now (cells_of self.old.steps)) (made_by self.old.steps) (span_of self.old.steps) }
+        requires next { Continues (steps_of alg.now (cells_of self.old.steps)) (made_by self.old.steps)
+            (span_of self.old.steps) }
         ensures course { IsCourse (job_of alg.now frame) self.new }
-        ensures runs { RunsOf (job_of alg.now frame) self.old (P.state port.old) (P.tape port.old) self.new (P.state port.new) (P.tape port.new) }
+        ensures runs { RunsOf (job_of alg.now frame) self.old (P.state port.old) (P.tape port.old) self.new
+            (P.state port.new) (P.tape port.new) }
         ensures made { self.new.made ≡ self.old.made + length (span_of self.old.steps) }
     {
         let good = self.make_span(port, alg, frame, width);
@@ -400,7 +413,8 @@ impl Course {
         requires left { self.old.made < until }
         requires to { until ≤ self.old.ending_from }
         ensures course { IsCourse (job_of alg.now frame) self.new }
-        ensures runs { RunsOf (job_of alg.now frame) self.old (P.state port.old) (P.tape port.old) self.new (P.state port.new) (P.tape port.new) }
+        ensures runs { RunsOf (job_of alg.now frame) self.old (P.state port.old) (P.tape port.old) self.new
+            (P.state port.new) (P.tape port.new) }
         ensures more { self.old.made < self.new.made }
         ensures to { self.new.made ≤ until }
     {
@@ -419,7 +433,8 @@ impl Course {
         requires from { self.old.ending_from ≤ self.old.made }
         requires to { self.old.made < self.old.ending_from + self.old.slice.n }
         ensures course { IsCourse (job_of alg.now frame) self.new }
-        ensures step { IsStepOf (job_of alg.now frame) self.old (P.state port.old) (P.tape port.old) self.new (P.state port.new) (P.tape port.new) }
+        ensures step { IsStepOf (job_of alg.now frame) self.old (P.state port.old) (P.tape port.old) self.new
+            (P.state port.new) (P.tape port.new) }
     {
         let access = self.store(frame);
         let _ = access.make(port);
@@ -432,7 +447,8 @@ impl Course {
         requires ready { IsReady (P.state port.old) (view_of (job_of alg.now frame) self.old) 1 }
         requires left { self.old.made < self.old.ending_from + self.old.slice.n }
         ensures course { IsCourse (job_of alg.now frame) self.new }
-        ensures step { IsStepOf (job_of alg.now frame) self.old (P.state port.old) (P.tape port.old) self.new (P.state port.new) (P.tape port.new) }
+        ensures step { IsStepOf (job_of alg.now frame) self.old (P.state port.old) (P.tape port.old) self.new
+            (P.state port.new) (P.tape port.new) }
     {
         let width = port.shape().width;
         if self.made < self.testing_from {

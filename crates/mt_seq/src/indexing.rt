@@ -65,9 +65,11 @@ pub fn access_at(job: &Job, slice: Slice, width: Width, index: u32, saved: &[u64
     requires fit { All (Fits width) saved.now }
     requires whole { job.now.policy ≡ Policy.NonDestructive → slice.n ≤ index → slice.n ≤ length saved.now }
     ensures item { (differs : Bool) →
-        item_at width (record { job = job.now; slice = slice; made = index; saved = saved.now; differs = differs }) ≡ Some (item_of_access result) }
+        item_at width (record { job = job.now; slice = slice; made = index; saved = saved.now; differs = differs })
+        ≡ Some (item_of_access result) }
     // It is a saving read where the words are kept, up to the number of the slice's words.
-    ensures saving { job.now.policy ≡ Policy.NonDestructive → index < slice.n → result ≡ Access.Look (slice.first + index) }
+    ensures saving { job.now.policy ≡ Policy.NonDestructive → index < slice.n
+        → result ≡ Access.Look (slice.first + index) }
     ensures behind { slice.n ≤ index → IsNoLook (item_of_access result) }
     ensures filling { job.now.policy ≡ Policy.Destructive → IsNoLook (item_of_access result) }
     ensures inside { place_of result < slice.first + slice.n }

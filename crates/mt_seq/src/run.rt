@@ -15,7 +15,8 @@ impl Course {
         requires ready { IsReady (P.state port.old) (view_of (job_of alg.now frame) self.old) (until - self.old.made) }
         requires to { until ≤ self.old.testing_from }
         ensures course { IsCourse (job_of alg.now frame) self.new }
-        ensures runs { RunsOf (job_of alg.now frame) self.old (P.state port.old) (P.tape port.old) self.new (P.state port.new) (P.tape port.new) }
+        ensures runs { RunsOf (job_of alg.now frame) self.old (P.state port.old) (P.tape port.old) self.new
+            (P.state port.new) (P.tape port.new) }
         ensures done { self.old.made ≤ until → self.new.made ≡ until }
         ensures none { until ≤ self.old.made → self.new.made ≡ self.old.made }
     {
@@ -31,7 +32,8 @@ impl Course {
         requires from { self.old.made < until → self.old.testing_from ≤ self.old.made }
         requires to { until ≤ self.old.ending_from }
         ensures course { IsCourse (job_of alg.now frame) self.new }
-        ensures runs { RunsOf (job_of alg.now frame) self.old (P.state port.old) (P.tape port.old) self.new (P.state port.new) (P.tape port.new) }
+        ensures runs { RunsOf (job_of alg.now frame) self.old (P.state port.old) (P.tape port.old) self.new
+            (P.state port.new) (P.tape port.new) }
         ensures done { self.old.made ≤ until → self.new.made ≡ until }
         ensures none { until ≤ self.old.made → self.new.made ≡ self.old.made }
     {
@@ -48,7 +50,8 @@ impl Course {
         requires from { self.old.made < until → self.old.ending_from ≤ self.old.made }
         requires to { until ≤ self.old.ending_from + self.old.slice.n }
         ensures course { IsCourse (job_of alg.now frame) self.new }
-        ensures runs { RunsOf (job_of alg.now frame) self.old (P.state port.old) (P.tape port.old) self.new (P.state port.new) (P.tape port.new) }
+        ensures runs { RunsOf (job_of alg.now frame) self.old (P.state port.old) (P.tape port.old) self.new
+            (P.state port.new) (P.tape port.new) }
         ensures done { self.old.made ≤ until → self.new.made ≡ until }
         ensures none { until ≤ self.old.made → self.new.made ≡ self.old.made }
     {
@@ -64,7 +67,8 @@ impl Course {
         requires ahead { self.old.made ≤ until }
         requires to { until ≤ self.old.ending_from + self.old.slice.n }
         ensures course { IsCourse (job_of alg.now frame) self.new }
-        ensures runs { RunsOf (job_of alg.now frame) self.old (P.state port.old) (P.tape port.old) self.new (P.state port.new) (P.tape port.new) }
+        ensures runs { RunsOf (job_of alg.now frame) self.old (P.state port.old) (P.tape port.old) self.new
+            (P.state port.new) (P.tape port.new) }
         ensures made { self.new.made ≡ until }
     {
         let saved = until.min(self.saved_at());

@@ -53,7 +53,8 @@ fn make<P: Port>(port: &mut P, ground: Ground, saved: &[u64], cell: u8, act: Act
     requires ground { IsGround (P.state port.old) ground saved.now }
     requires cell { cell < ground.n }
     requires room { (P.state port.old).count + 1 < 2 ^ 32 }
-    ensures { Makes (item_on ground saved.now (step cell act) ∷ []) (P.state port.old) (P.state port.new) (P.tape port.old) (P.tape port.new) result }
+    ensures { Makes (item_on ground saved.now (step cell act) ∷ []) (P.state port.old) (P.state port.new)
+        (P.tape port.old) (P.tape port.new) result }
 {
     let back = ground.back(saved, cell);
     let word = word_of(ground.width, back, act);
@@ -72,7 +73,8 @@ fn act_at(even: Act, odd: Act, cell: u8) -> Act
 pub fn each_cell<P: Port>(port: &mut P, ground: Ground, saved: &[u64], even: Act, odd: Act) -> bool
     requires ground { IsGround (P.state port.old) ground saved.now }
     requires room { (P.state port.old).count + ground.n < 2 ^ 32 }
-    ensures { Makes (map (item_on ground saved.now) (map (λ j. step j (if is_odd j then odd else even)) (cells ground.n)))
+    ensures { Makes (map (item_on ground saved.now)
+        (map (λ j. step j (if is_odd j then odd else even)) (cells ground.n)))
         (P.state port.old) (P.state port.new) (P.tape port.old) (P.tape port.new) result }
 {
     let mut good = true;
@@ -97,7 +99,8 @@ pub struct Target {
 fn operate<P: Port>(port: &mut P, op: Op, target: Target, good: bool) -> bool
     requires target { IsTarget (P.state port.old) target }
     requires room { (P.state port.old).count + 1 < 2 ^ 32 }
-    ensures { MakesToo (operation target op ∷ []) (P.state port.old) (P.state port.new) (P.tape port.old) (P.tape port.new) good result }
+    ensures { MakesToo (operation target op ∷ []) (P.state port.old) (P.state port.new) (P.tape port.old)
+        (P.tape port.new) good result }
 {
     let Target {
         addr,
@@ -129,7 +132,8 @@ fn operate<P: Port>(port: &mut P, op: Op, target: Target, good: bool) -> bool
 fn operate_all<P: Port>(port: &mut P, ops: &[Op], target: Target, good: bool) -> bool
     requires target { IsTarget (P.state port.old) target }
     requires room { (P.state port.old).count + length ops.now < 2 ^ 32 }
-    ensures { MakesToo (map (operation target) ops.now) (P.state port.old) (P.state port.new) (P.tape port.old) (P.tape port.new) good result }
+    ensures { MakesToo (map (operation target) ops.now) (P.state port.old) (P.state port.new) (P.tape port.old)
+        (P.tape port.new) good result }
 {
     let mut all = good;
     for op in ops {
@@ -144,7 +148,9 @@ pub fn on_cells<P: Port>(port: &mut P, ground: Ground, element: &Element) -> boo
     requires opaque { ground.transparent ≡ false }
     requires small { ground.n ≤ 64 }
     requires room { (P.state port.old).count + ground.n * length element.now.ops.items < 2 ^ 32 }
-    ensures { Makes (map (item_on ground []) (flat_map (λ place. ops_on element.now.ops.items (cell_at element.now.order ground.n place)) (cells ground.n)))
+    ensures { Makes (map (item_on ground [])
+        (flat_map (λ place. ops_on element.now.ops.items (cell_at element.now.order ground.n place))
+        (cells ground.n)))
         (P.state port.old) (P.state port.new) (P.tape port.old) (P.tape port.new) result }
 {
     let plain = ground.background;

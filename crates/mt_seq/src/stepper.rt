@@ -94,9 +94,11 @@ impl Stepper {
     pub fn step<P: Port>(&mut self, port: &mut P) -> Progress
         requires ready { IsReady (P.state port.old) self.old 1 }
         requires left { self.old.made < sequence_hold self.old.job self.old.slice.n }
-        ensures step { IsStep self.old (P.state port.old) (P.tape port.old) self.new (P.state port.new) (P.tape port.new) }
+        ensures step { IsStep self.old (P.state port.old) (P.tape port.old) self.new (P.state port.new)
+            (P.tape port.new) }
         // What the next steps need.
-        ensures ready { (more : ℕ) → IsReady (P.state port.old) self.old (more + 1) → IsReady (P.state port.new) self.new more }
+        ensures ready { (more : ℕ) → IsReady (P.state port.old) self.old (more + 1)
+            → IsReady (P.state port.new) self.new more }
         ensures progress { result ≡ progress_of (sequence_hold self.new.job self.new.slice.n - self.new.made) self.new }
     {
         let frame = self.job.frame();
@@ -109,7 +111,8 @@ impl Stepper {
         requires ready { IsReady (P.state port.old) self.old (until - self.old.made) }
         requires ahead { self.old.made ≤ until }
         requires to { until ≤ sequence_hold self.old.job self.old.slice.n }
-        ensures runs { Runs self.old (P.state port.old) (P.tape port.old) self.new (P.state port.new) (P.tape port.new) }
+        ensures runs { Runs self.old (P.state port.old) (P.tape port.old) self.new (P.state port.new)
+            (P.tape port.new) }
         ensures made { self.new.made ≡ until }
         ensures progress { result ≡ progress_of (sequence_hold self.new.job self.new.slice.n - self.new.made) self.new }
     {
@@ -120,7 +123,9 @@ impl Stepper {
 
     /// Whether the attempt may still be given up: the words are kept, and the writes that end the sequence have not begun.
     pub fn can_back_out(&self) -> bool
-        ensures { result ≡ (keeps_words self.now.job.policy && nat_lt self.now.made (self.now.slice.n + length (steps_of self.now.job.alg self.now.slice.n))) }
+        ensures { result
+            ≡ (keeps_words self.now.job.policy
+            && nat_lt self.now.made (self.now.slice.n + length (steps_of self.now.job.alg self.now.slice.n))) }
     {
         match self.job.policy {
             Policy::NonDestructive => self.course.made() < self.course.tested_at(),

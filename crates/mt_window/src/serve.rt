@@ -115,7 +115,8 @@ fn serve_one<P: Port, C: Callee>(
 /// its wait, and then the reply to each of its operations.
 pub fn serve_due<P: Port, C: Callee>(port: &mut P, callee: &mut C, log: &mut EventLog)
     requires { IsReady C.kind (P.state port.old) log.old }
-    ensures scene { scene (P.state port.new) callee.new log.new ≡ serve_due C.table (scene (P.state port.old) callee.old log.old) }
+    ensures scene { scene (P.state port.new) callee.new log.new
+        ≡ serve_due C.table (scene (P.state port.old) callee.old log.old) }
     ensures ready { IsReady C.kind (P.state port.new) log.new }
     ensures setting { C.setting callee.new ≡ C.setting callee.old }
     ensures tape { P.tape port.new ≡ P.tape port.old }
@@ -129,7 +130,8 @@ pub fn serve_due<P: Port, C: Callee>(port: &mut P, callee: &mut C, log: &mut Eve
 /// Serves all requests that are left, in their order, with no wait.
 pub fn serve_left<P: Port, C: Callee>(port: &mut P, callee: &mut C, log: &mut EventLog)
     requires { IsReady C.kind (P.state port.old) log.old }
-    ensures scene { scene (P.state port.new) callee.new log.new ≡ serve_left C.table (scene (P.state port.old) callee.old log.old) }
+    ensures scene { scene (P.state port.new) callee.new log.new
+        ≡ serve_left C.table (scene (P.state port.old) callee.old log.old) }
     ensures none { (P.state port.new).left ≡ [] }
     ensures ready { IsReady C.kind (P.state port.new) log.new }
     ensures setting { C.setting callee.new ≡ C.setting callee.old }

@@ -107,7 +107,8 @@ pub trait Walk<C: Callee> {
             → Logs (P.tape port.old) (P.tape port.new) ((tests).attempt may callee.now x (P.state port.old)).touches }
         ensures short { (x : _) (more : _) → left self.old callee.now ≡ x ∷ more
             → ((tests).attempt may callee.now x (P.state port.old)).count ≤ (tests).hold callee.now x }
-        ensures longest { (x : _) (more : _) → left self.old callee.now ≡ x ∷ more → (tests).hold callee.now x ≤ longest }
+        ensures longest { (x : _) (more : _) → left self.old callee.now ≡ x ∷ more
+            → (tests).hold callee.now x ≤ longest }
         // An attempt is dropped only where it may be, and leaves an urgent request due.
         ensures whole { may ≡ false → is_some result ≡ true }
         ensures due { is_some result ≡ false → is_urgent_due (P.state port.new).count (P.state port.new).left ≡ true };
@@ -122,15 +123,18 @@ pub trait Walk<C: Callee> {
         ensures origin { origin self.new ≡ origin self.old }
         ensures name { call self.new ≡ call self.old }
         ensures left { (x : _) (more : _) → left self.old callee.old ≡ x ∷ more → left self.new callee.new ≡ more }
-        ensures failed { (x : _) (more : _) → left self.old callee.old ≡ x ∷ more → failed self.new ≡ (tests).failed x verdict (failed self.old) }
-        ensures callee { (x : _) (more : _) → left self.old callee.old ≡ x ∷ more → callee.new ≡ (tests).taken callee.old x verdict (failed self.old) }
+        ensures failed { (x : _) (more : _) → left self.old callee.old ≡ x ∷ more
+            → failed self.new ≡ (tests).failed x verdict (failed self.old) }
+        ensures callee { (x : _) (more : _) → left self.old callee.old ≡ x ∷ more
+            → callee.new ≡ (tests).taken callee.old x verdict (failed self.old) }
         ensures most { (x : _) (more : _) → left self.old callee.old ≡ x ∷ more
             → (tests).hold callee.old x + most self.new callee.new ≤ most self.old callee.old };
 
     /// After the last boundary the module goes back.
     fn leave(&self, callee: &mut C)
         requires { Fits self.now callee.old }
-        ensures callee { (o : _) → Remembers (origin self.now) o → callee.new ≡ (running (call self.now)).back o callee.old }
+        ensures callee { (o : _) → Remembers (origin self.now) o
+            → callee.new ≡ (running (call self.now)).back o callee.old }
         ensures setting { C.setting callee.new ≡ C.setting callee.old };
 
     /// The reply.
@@ -149,9 +153,11 @@ pub trait Walk<C: Callee> {
     /// No call of a handler leads off the walk.
     ghost handled_fits: { (w : Self) (c : C) (call : HandlerCall) → Fits w c → Fits w ((C.table).next c call) };
 
-    ghost handled_left: { (w : Self) (c : C) (call : HandlerCall) → Fits w c → left w ((C.table).next c call) ≡ left w c };
+    ghost handled_left: { (w : Self) (c : C) (call : HandlerCall) → Fits w c
+        → left w ((C.table).next c call) ≡ left w c };
 
-    ghost handled_most: { (w : Self) (c : C) (call : HandlerCall) → Fits w c → most w ((C.table).next c call) ≡ most w c };
+    ghost handled_most: { (w : Self) (c : C) (call : HandlerCall) → Fits w c
+        → most w ((C.table).next c call) ≡ most w c };
 }
 
 /// The slices that are left, one after another, with a boundary at the end of each attempt, as long as the module goes on.
@@ -164,9 +170,11 @@ pub(crate) fn run_slices<C: Callee, W: Walk<C>, P: Port>(
     requires ready { IsReady C.kind (P.state port.old) log.old }
     requires fits { W.Fits walk.old callee.old }
     requires shape { (P.state port.old).shape ≡ W.shape callee.old }
-    requires room { (P.state port.old).count + W.most walk.old callee.old + W.longest * length (P.state port.old).left < 2 ^ 32 }
+    requires room { (P.state port.old).count + W.most walk.old callee.old
+        + W.longest * length (P.state port.old).left < 2 ^ 32 }
     ensures scene { scene (P.state port.new) callee.new log.new
-        ≡ (slices W.tests (W.left walk.old callee.old) (started (W.failed walk.old) (scene (P.state port.old) callee.old log.old))).scene }
+        ≡ (slices W.tests (W.left walk.old callee.old)
+        (started (W.failed walk.old) (scene (P.state port.old) callee.old log.old))).scene }
     ensures ready { IsReady C.kind (P.state port.new) log.new }
     ensures setting { C.setting callee.new ≡ C.setting callee.old }
     ensures fits { W.Fits walk.new callee.new }
