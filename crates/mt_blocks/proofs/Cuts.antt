@@ -11,13 +11,9 @@ use Rattle.mt_blocks.specs.declared.span.Span.{Span}
 use Rattle.mt_blocks.specs.declared.pass.Position.{Position}
 use Rattle.mt_blocks.specs.Slices.{Piece, span_len, span_at, slice_count, piece, pieces, pieces_from, pass, from_next, piece_at, next_of, AreSpans, IsValid}
 use Rattle.mt_blocks.specs.Groups.{group_len, groups_up_to, ticks}
+use Rattle.mt_blocks.specs.Inner.Small.{AreSmall}
 use Rattle.mt_blocks.specs.Laws.{joined, GroupsAreThePass}
 use Rattle.mt_blocks.proofs.Passes.{count_inside, from_step}
-
--- no slice has more words than a tick may test
-abbrev pub AreSmall : ℕ → List Piece → Type 0
-AreSmall N [] = Unit {0}
-AreSmall N (p ∷ more) = (p.slice.n ≤ N) × AreSmall N more
 
 small-append : (N : ℕ) (xs ys : List Piece) → AreSmall N xs → AreSmall N ys → AreSmall N (xs ++ ys)
 small-append N [] ys a b = b

@@ -2,3 +2,4 @@ pub mod Accepted
 pub mod Slices
 pub mod Groups
 pub mod Laws
+pub mod Inner

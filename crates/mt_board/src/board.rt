@@ -48,6 +48,7 @@ fn least_urgent(requests: &[Request]) -> Option<u32>
 
 // Moves the requests of one list into another, the last one first. What stood there is dropped.
 fn move_reversed(from: &mut ArrayVec<Request, 16>, to: &mut ArrayVec<Request, 16>)
+    requires { length from.old.items ≤ 16 }
     ensures moved { to.new.items ≡ reverse from.old.items }
     ensures empty { from.new.items ≡ [] }
 {

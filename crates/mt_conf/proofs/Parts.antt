@@ -6,7 +6,7 @@ use Rattle.std.proofs.lemmas.Grind.{flat_map-append}
 use Rattle.std.specs.Prelude.{flat_map, min}
 use Rattle.std.specs.Io.KnownBytes.{Appends}
 use Rattle.mt_port.specs.Streams.{AppendsFront}
-use Rattle.mt_port.proofs.StreamLemmas.{Appends-trans, AppendsFront-after, AppendsFront-more}
+use Rattle.mt_port.specs.Inner.Streams.{Appends-trans, AppendsFront-after, AppendsFront-more}
 
 -- five parts, one after another
 pub five_parts : (out first second third fourth last a b c d e : List ℕ) → first ≡ out ++ a → second ≡ first ++ b → third ≡ second ++ c → fourth ≡ third ++ d → last ≡ fourth ++ e

@@ -26,11 +26,8 @@ use Rattle.mt_seq.specs.Laws.{CaughtFaultsFail}
 use Rattle.mt_cover.specs.declared.class.Class.{Class}
 use Rattle.mt_cover.specs.declared.class.Class.TheVariants as classes
 use Rattle.mt_cover.specs.Coverage.{class_of, IsTabled, HasOneWord, Coverage}
+use Rattle.mt_cover.specs.Inner.MemoryLaws.{AnswersFit}
 use Rattle.mt_cover.specs.Detection.{Detection, HasSoundWords, AttemptsDetect, WholeAttemptsEnd}
-
--- a read of a sound memory answers a word that fits: the law of mt_fault
-abbrev pub AnswersFit : Type 0
-AnswersFit = (m : memory.Memory) → memory.IsSound m → (a : ℕ) → a < length m.words → Fits m.width (answer m.fault m.words [] a)
 
 pub cells_below : (n : ℕ) → All (λ (c : ℕ). c < n) (cells n)
 cells_below zero = All-nil (λ (c : ℕ). c < zero)

@@ -25,14 +25,8 @@ use Rattle.mt_seq.specs.declared.sequence.Slice.{Slice}
 use Rattle.mt_seq.specs.Sequence.{is_transparent, back_of, last_of, saving, saved_words, testing, ending, accesses_of, sequence, IsSoundJob}
 use Rattle.mt_seq.specs.Attempts.{attempt, attempt_to, attempt_words, dropped_at}
 use Rattle.mt_cover.specs.Detection.{HasSoundWords, AttemptsStaySound}
-use Rattle.mt_cover.proofs.Detection.{AnswersFit, cells_below}
-
--- the laws of mt_fault
-abbrev pub StaysSound : Type 0
-StaysSound = (m : Memory) (h : History) → IsSound m → WritesFit m.width h → IsSound (record m { words = words_after m.fault m.words h })
-
-abbrev pub KeepsSize : Type 0
-KeepsSize = (fault : Option Fault) (first : List ℕ) (h : History) → length (words_after fault first h) ≡ length first
+use Rattle.mt_cover.specs.Inner.MemoryLaws.{AnswersFit, KeepsSize, StaysSound}
+use Rattle.mt_cover.proofs.Detection.{cells_below}
 
 -- ---- accesses and histories
 

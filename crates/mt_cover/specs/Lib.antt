@@ -1,3 +1,4 @@
 pub mod Coverage
 pub mod Further
 pub mod Detection
+pub mod Inner

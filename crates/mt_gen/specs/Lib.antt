@@ -3,3 +3,4 @@ pub mod Script
 pub mod Source
 pub mod Summary
 pub mod Config
+pub mod Inner

@@ -8,7 +8,7 @@ use Rattle.std.proofs.lemmas.Slice.Eq.{bytes_eq-Decides}
 use Rattle.std.specs.Io.KnownBytes.{prepend_known}
 use Rattle.mt_port.specs.Streams.{WhereTold}
 use Rattle.mt_port.specs.declared.board.Shape.{Shape}
-use Rattle.mt_port.proofs.StreamLemmas.{WhereTold-then, WhereTold-map}
+use Rattle.mt_port.specs.Inner.Streams.{WhereTold-then, WhereTold-map}
 use Rattle.mt_text.specs.declared.line.Line.{Line}
 use Rattle.mt_text.specs.Lines.{line_of}
 use Rattle.mt_text.specs.declared.line.LineRefusal.{LineRefusal}

@@ -8,7 +8,7 @@ use Rattle.std.proofs.lemmas.Slice.Eq.{bytes_eq-Decides}
 use Rattle.std.specs.Io.KnownBytes.{prepend_known}
 use Rattle.mt_port.specs.Streams.{WhereTold}
 use Rattle.mt_port.specs.declared.stream.Failed.{Failed}
-use Rattle.mt_port.proofs.StreamLemmas.{WhereTold-then, WhereTold-map}
+use Rattle.mt_port.specs.Inner.Streams.{WhereTold-then, WhereTold-map}
 use Rattle.mt_verify.specs.Lines.{feeds, lines, first_other_line, line_at_end}
 use Rattle.mt_verify.specs.Laws.{IsWhole, HasNoEmptyLine}
 use Rattle.mt_verify.proofs.Whole.{open_line, as_many}

@@ -11,7 +11,7 @@ use Rattle.mt_blocks.specs.Slices.{Piece, pass, from_place, piece_at, start, IsV
 use Rattle.mt_blocks.specs.Groups.{ticks, group_len}
 use Rattle.mt_blocks.specs.Laws.{BlocksBegin}
 use Rattle.mt_blocks.specs.Accepted.{spans_of, IsAcceptedSet, set_at}
-use Rattle.mt_blocks.proofs.Cuts.{AreSmall}
+use Rattle.mt_blocks.specs.Inner.Small.{AreSmall}
 use Rattle.mt_blocks.proofs.Passes.{from_first}
 use Rattle.mt_ram.specs.State.{Setting, RamTst, set_of}
 use Rattle.mt_ram.proofs.Sets.{accepted_spans, block_there}

@@ -5,7 +5,7 @@ use Rattle.std.proofs.lemmas.Slice.Eq.{bytes_eq-Decides}
 use Rattle.std.proofs.lemmas.List.{take-append-drop, take-append-le, take_all, drop_all, drop-append-le}
 use Rattle.std.specs.Io.KnownBytes.{prepend_known}
 use Rattle.mt_port.specs.Streams.{WhereTold}
-use Rattle.mt_port.proofs.StreamLemmas.{WhereTold-then, WhereTold-map}
+use Rattle.mt_port.specs.Inner.Streams.{WhereTold-then, WhereTold-map}
 use Rattle.mt_replay.specs.Input.{Ending, Finished, Failed, Cut, cut, separator, Job, Parted, Whole, preceded_by, parted, parted_at_end, job_of}
 use Rattle.mt_replay.specs.Inner.Reading.{HasNoFeed}
 use Rattle.mt_replay.specs.Inner.Head.{ByteGives, IsTooLong, Parts, EndsWith, Exceeds, HeadBreaks}

@@ -7,7 +7,7 @@ use Rattle.mt_port.specs.Streams.{WhereTold, AppendsFront}
 use Rattle.mt_port.specs.Board.{Board, Logs, powered_up}
 use Rattle.mt_port.specs.declared.board.Shape.{Shape}
 use Rattle.mt_port.specs.declared.board.Touch.{Touch}
-use Rattle.mt_port.proofs.StreamLemmas.{Appends-trans, AppendsFront-after, WhereTold-map}
+use Rattle.mt_port.specs.Inner.Streams.{Appends-trans, AppendsFront-after, WhereTold-map}
 use Rattle.mt_fault.specs.declared.fault.Fault.{Fault as MemoryFault}
 use Rattle.mt_blocks.specs.declared.config.ParamSet.{ParamSet}
 use Rattle.mt_text.specs.declared.line.Line.{Line}

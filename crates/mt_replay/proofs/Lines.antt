@@ -3,7 +3,7 @@ use Rattle.std.proofs.Common.{ℕ, ◌+◌, ◌<◌, ◌≤◌, ◌≡◌, ◌==
 use Rattle.std.proofs.lemmas.Bool.Decides.{eqb_tells}
 use Rattle.std.specs.Io.KnownBytes.{prepend_known}
 use Rattle.mt_port.specs.Streams.{WhereTold}
-use Rattle.mt_port.proofs.StreamLemmas.{WhereTold-then}
+use Rattle.mt_port.specs.Inner.Streams.{WhereTold-then}
 use Rattle.mt_replay.specs.Input.{Cut, cut, led, begun}
 use Rattle.mt_replay.specs.Inner.Reading.{HasNoFeed, BeginsTooLong, TakesLine, BreaksOff}
 use Rattle.mt_replay.specs.declared.input.Line.TheVariants as line

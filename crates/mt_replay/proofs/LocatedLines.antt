@@ -5,7 +5,7 @@ use Rattle.std.proofs.lemmas.Bool.{le-ltb, lt-ltb}
 use Rattle.std.specs.Io.KnownBytes.{prepend_known}
 use Rattle.mt_port.specs.Streams.{WhereTold}
 use Rattle.mt_port.specs.declared.board.Shape.{Shape}
-use Rattle.mt_port.proofs.StreamLemmas.{WhereTold-then, WhereTold-map}
+use Rattle.mt_port.specs.Inner.Streams.{WhereTold-then, WhereTold-map}
 use Rattle.mt_blocks.specs.declared.config.ParamSet.{ParamSet}
 use Rattle.mt_locate.specs.declared.probe.Probe.{Probe}
 use Rattle.mt_locate.specs.declared.probe.Miss.{Miss}

@@ -29,7 +29,7 @@ use Rattle.mt_ram.specs.State.{RamTst, set_of}
 use Rattle.mt_ram.specs.Results.{failed_after}
 use Rattle.mt_ram.specs.Table.{MainFunction, cell, resumed, ram_table}
 use Rattle.mt_ram.specs.Event.{job_of, passed, of_pass, ticking}
-use Rattle.mt_blocks.proofs.Cuts.{AreSmall}
+use Rattle.mt_blocks.specs.Inner.Small.{AreSmall}
 use Rattle.mt_ram.proofs.Sets.{accepted_spans, block_there}
 use Rattle.mt_replay.proofs.Pieces.{start-valid, small-from, ticks-group, from-of}
 use Rattle.mt_replay.proofs.Phases.{IsBehind, results_by, Knows, reaches, goes_on}

@@ -15,7 +15,8 @@ use Rattle.mt_blocks.specs.Slices.{Piece, piece, piece_at, pieces, pieces_from, 
 use Rattle.mt_blocks.specs.Groups.{group_len, groups_up_to, ticks}
 use Rattle.mt_blocks.specs.Accepted.{spans_of, IsAcceptedSet}
 use Rattle.mt_blocks.proofs.Passes.{count_inside}
-use Rattle.mt_blocks.proofs.Cuts.{AreSmall, small-pass}
+use Rattle.mt_blocks.proofs.Cuts.{small-pass}
+use Rattle.mt_blocks.specs.Inner.Small.{AreSmall}
 use Rattle.mt_ram.proofs.Sets.{accepted_block, spans_at, block_there}
 
 -- ---- where slices stand

@@ -5,7 +5,7 @@ use Rattle.std.proofs.lemmas.Bool.{lt-ltb}
 use Rattle.mt_port.specs.Board.{Logs}
 use Rattle.mt_port.specs.declared.board.Shape.{Shape}
 use Rattle.mt_port.specs.declared.board.Touch.{Touch}
-use Rattle.mt_port.proofs.StreamLemmas.{Logs-nil, Logs-append}
+use Rattle.mt_port.specs.Inner.Streams.{Logs-nil, Logs-append}
 use Rattle.mt_text.specs.declared.line.Line.{Line}
 use Rattle.mt_text.specs.declared.line.LineRefusal.{LineRefusal}
 use Rattle.mt_text.specs.Lines.{line_of}

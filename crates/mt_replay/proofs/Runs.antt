@@ -8,7 +8,7 @@ use Rattle.mt_port.specs.Board.{Board, Logs}
 use Rattle.mt_port.specs.declared.board.Shape.{Shape}
 use Rattle.mt_port.specs.declared.board.Touch.{Touch}
 use Rattle.mt_port.specs.declared.stream.Failed.{Failed as StreamFailed}
-use Rattle.mt_port.proofs.StreamLemmas.{Appends-nil, Appends-trans, WhereTold-then, AppendsFront-after, Logs-nil, Logs-append, WhereTold-map}
+use Rattle.mt_port.specs.Inner.Streams.{Appends-nil, Appends-trans, WhereTold-then, AppendsFront-after, Logs-nil, Logs-append, WhereTold-map}
 use Rattle.mt_text.specs.declared.line.Line.{Line as ScriptLine}
 use Rattle.mt_replay.specs.declared.form.Form.{Form}
 use Rattle.mt_replay.specs.declared.form.Form.TheVariants as forms

@@ -15,8 +15,7 @@ use Rattle.mt_port.specs.declared.request.HandlerOp.TheVariants.{App, Call}
 use Rattle.mt_port.specs.declared.request.Request.{Request}
 use Rattle.mt_port.specs.Board.{Board, IsSoundOp, IsSoundInHandler, memory_of, op_words, after, answered}
 use Rattle.mt_cover.specs.Detection.{HasSoundWords}
-use Rattle.mt_cover.proofs.Detection.{AnswersFit}
-use Rattle.mt_cover.proofs.Writes.{StaysSound, KeepsSize}
+use Rattle.mt_cover.specs.Inner.MemoryLaws.{AnswersFit, StaysSound, KeepsSize}
 use Rattle.mt_window.specs.declared.log.Entry.{Entry}
 use Rattle.mt_window.specs.declared.log.Entry.TheVariants.{Served, Inner}
 use Rattle.mt_window.specs.declared.reply.Reply.{Reply}

@@ -4,7 +4,7 @@ use Rattle.std.proofs.lemmas.List.Sums.{fold-append}
 use Rattle.mt_port.specs.Board.{Board, Logs, powered_up}
 use Rattle.mt_port.specs.declared.board.Shape.{Shape}
 use Rattle.mt_port.specs.declared.board.Touch.{Touch}
-use Rattle.mt_port.proofs.StreamLemmas.{Logs-nil, Logs-append}
+use Rattle.mt_port.specs.Inner.Streams.{Logs-nil, Logs-append}
 use Rattle.mt_fault.specs.declared.fault.Fault.{Fault}
 use Rattle.mt_text.specs.declared.line.Line.{Line}
 use Rattle.mt_text.specs.Accepted.{IsAccepted}

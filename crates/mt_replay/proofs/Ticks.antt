@@ -4,7 +4,7 @@ use Rattle.std.specs.Prelude.{sum, All, slice_index}
 use Rattle.std.specs.Io.KnownBytes.{Appends}
 use Rattle.std.proofs.lemmas.List.Elements.{All-head}
 use Rattle.mt_port.specs.Streams.{AppendsFront}
-use Rattle.mt_port.proofs.StreamLemmas.{Appends-nil, Appends-trans, AppendsFront-after, AppendsFront-more}
+use Rattle.mt_port.specs.Inner.Streams.{Appends-nil, Appends-trans, AppendsFront-after, AppendsFront-more}
 use Rattle.mt_cut.specs.Cuts.{longest_runs}
 use Rattle.mt_replay.specs.Cut.{tick_text, tick_lines, count_text}
 

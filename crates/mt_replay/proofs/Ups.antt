@@ -26,7 +26,8 @@ use Rattle.mt_ram.specs.Table.{Init, Allow, Stop, Suspend, Resume, GetTestResult
 use Rattle.mt_ram.specs.Event.{of_pass, ticking}
 use Rattle.mt_gen.specs.Config.{job_config}
 use Rattle.mt_gen.specs.Script.{ram_tick, first_lines, lines_behind, script}
-use Rattle.mt_gen.proofs.ScriptLemmas.{OfEachForm, of_number, script_all}
+use Rattle.mt_gen.specs.Inner.EachForm.{OfEachForm}
+use Rattle.mt_gen.proofs.ScriptLemmas.{of_number, script_all}
 use Rattle.mt_replay.specs.Machine.{Machine, begun, step, started}
 use Rattle.mt_replay.specs.Outcome.{played}
 

@@ -7,7 +7,7 @@ use Rattle.mt_port.specs.Board.{Board, Logs}
 use Rattle.mt_port.specs.declared.board.Touch.{Touch}
 use Rattle.mt_port.specs.declared.board.Shape.{Shape}
 use Rattle.mt_port.specs.declared.stream.Failed.{Failed as StreamFailed}
-use Rattle.mt_port.proofs.StreamLemmas.{WhereTold-then}
+use Rattle.mt_port.specs.Inner.Streams.{WhereTold-then}
 use Rattle.mt_fault.specs.declared.fault.Fault.{Fault}
 use Rattle.mt_text.specs.declared.line.Line.{Line}
 use Rattle.mt_verify.specs.Lines.{lines as lines_of, first_other_line}

@@ -12,7 +12,7 @@ use Rattle.mt_plan.specs.Lists.{cells}
 use Rattle.mt_port.specs.declared.board.Touch.{Touch}
 use Rattle.mt_port.specs.declared.board.Touch.TheVariants as touches
 use Rattle.mt_port.specs.Board.{Board, Logs}
-use Rattle.mt_port.proofs.StreamLemmas.{Logs-nil, Logs-append}
+use Rattle.mt_port.specs.Inner.Streams.{Logs-nil, Logs-append}
 use Rattle.mt_seq.specs.Laws.{EqualsCopy, ComparisonsArePairs, NothingIsFoundWhereAllEqual}
 use Rattle.mt_seq.specs.Compare.{comparison, compare_touches, compare_hold}
 

@@ -11,13 +11,13 @@ use Rattle.mt_plan.specs.Lists.{cells}
 use Rattle.std.proofs.lemmas.List.Elements.{All-append, All-cons, All-nil}
 use Rattle.mt_fault.specs.Faulty.{words_after}
 use Rattle.mt_fault.proofs.Spans.{words_cut, length-words_after}
+use Rattle.mt_fault.proofs.ItemLemmas.{history-append, passes-append, passes_cut, both, and_true}
 use Rattle.mt_port.specs.declared.board.Touch.{Touch}
-use Rattle.mt_port.proofs.StreamLemmas.{Logs-nil, Logs-append, logs_one}
+use Rattle.mt_port.specs.Inner.Streams.{Logs-nil, Logs-append, logs_one}
 use Rattle.mt_port.specs.Tape.{recorded}
 use Rattle.mt_port.specs.Board.{Board, IsSound, Logs}
 use Rattle.mt_fault.specs.Items.{Item, place, access_of, history, agrees, passes}
 use Rattle.mt_seq.specs.Tape.{touch_of}
-use Rattle.mt_fault.proofs.ItemLemmas.{history-append, passes-append, passes_cut, both, and_true}
 use Rattle.mt_seq.specs.Makes.{Makes}
 
 board-is : (a b : Board) (ws vs : List ℕ) (m n : ℕ) → b ≡ record a { words = ws; count = m } → ws ≡ vs → m ≡ n → b ≡ record a { words = vs; count = n }

@@ -10,6 +10,7 @@ use Rattle.std.proofs.lemmas.List.{length-map}
 use Rattle.std.proofs.Math.ListN.{get_or-append}
 use Rattle.std.proofs.Math.Seq.{get_or-append_seam}
 use Rattle.mt_fault.proofs.Steps.{plain_none}
+use Rattle.mt_fault.proofs.ItemLemmas.{history-cons, history-append, passes-append, both}
 use Rattle.mt_seq.proofs.Lengths.{length-cells, length-saving}
 use Rattle.mt_word.specs.declared.Width.{Width}
 use Rattle.mt_word.specs.Word.{complement_of}
@@ -37,7 +38,6 @@ use Rattle.mt_seq.specs.Attempts.{attempt, attempt_to, attempt_verdict, attempt_
 use Rattle.mt_seq.specs.Laws.{is_in, left_words, SoundMemoryPasses, SoundMemoryStays, CaughtFaultsFail, DroppedAttemptsStay, WholeAttemptsPass}
 use Rattle.mt_seq.proofs.Attempts.{dropped}
 use Rattle.mt_seq.proofs.Underway.{IsLook, early_looks}
-use Rattle.mt_fault.proofs.ItemLemmas.{history-cons, history-append, passes-append, both}
 
 -- lists whose items are never checked
 pub Unchecked : Item → Type 0

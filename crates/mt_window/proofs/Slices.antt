@@ -4,7 +4,7 @@ use Rattle.std.specs.Prelude.{is_some, nat_lt}
 use Rattle.std.proofs.lemmas.Bool.{lt-ltb}
 use Rattle.mt_port.specs.declared.board.Touch.{Touch}
 use Rattle.mt_port.specs.Board.{Logs}
-use Rattle.mt_port.proofs.StreamLemmas.{Logs-nil, Logs-append}
+use Rattle.mt_port.specs.Inner.Streams.{Logs-nil, Logs-append}
 use Rattle.mt_window.specs.Serving.{Scene, scene, serve_due}
 use Rattle.mt_window.specs.Kept.{tried-stopped, slices-stopped}
 use Rattle.mt_window.specs.Slices.{Tests, Trail, Attempt, attempted, taken_by, failed_by, next_attempt, kept_attempt, after_attempt, tried, slices}

@@ -2,7 +2,7 @@ use Rattle.std.proofs.Common.{ap, ◌∙◌, ◌≡◌, subst}
 use Rattle.std.proofs.lemmas.Result.{on_ok_weaker, on_err_weaker}
 use Rattle.std.specs.Io.KnownBytes.{Appends}
 use Rattle.mt_port.specs.Streams.{AppendsFront}
-use Rattle.mt_port.proofs.StreamLemmas.{Appends-trans, AppendsFront-after, AppendsFront-more}
+use Rattle.mt_port.specs.Inner.Streams.{Appends-trans, AppendsFront-after, AppendsFront-more}
 use Rattle.mt_cut.specs.Holds.{pass_holds}
 use Rattle.mt_cut.specs.Cuts.{first_above}
 use Rattle.mt_cut.specs.Atomic.{largest}

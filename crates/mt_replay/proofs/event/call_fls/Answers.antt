@@ -4,7 +4,7 @@ use Rattle.mt_replay.specs.declared.event.Called.{Called}
 use Rattle.mt_replay.specs.Inner.Events.{FlsCalled}
 use Rattle.mt_port.specs.Board.{Logs}
 use Rattle.mt_replay.specs.Machine.{Machine, Step, fls_service_of, by_fls_service}
-use Rattle.mt_port.proofs.StreamLemmas.{Logs-nil}
+use Rattle.mt_port.specs.Inner.Streams.{Logs-nil}
 use Rattle.mt_replay.proofs.Services.{does_call_fls}
 use Rattle.mt_replay.proofs.event.call_fls.Goals as goal
 

@@ -4,7 +4,7 @@ use Rattle.mt_replay.specs.declared.event.Called.{Called}
 use Rattle.mt_replay.specs.Inner.Events.{RamCalled}
 use Rattle.mt_port.specs.Board.{Logs}
 use Rattle.mt_replay.specs.Machine.{Machine, Step, service_of, by_service}
-use Rattle.mt_port.proofs.StreamLemmas.{Logs-nil}
+use Rattle.mt_port.specs.Inner.Streams.{Logs-nil}
 use Rattle.mt_replay.proofs.Services.{does_call}
 use Rattle.mt_replay.proofs.event.call_ram.Goals as goal
 

@@ -2,7 +2,7 @@ use Rattle.std.proofs.Common.{◌∙◌, ap, sym, subst, List, ℕ}
 use Rattle.mt_replay.specs.Input.{Finished, Whole}
 use Rattle.mt_replay.specs.Outcome.{judged_job}
 use Rattle.mt_replay.specs.Inner.Jobs.{IsFound}
-use Rattle.mt_port.proofs.StreamLemmas.{WhereTold-map}
+use Rattle.mt_port.specs.Inner.Streams.{WhereTold-map}
 use Rattle.mt_replay.proofs.Jobs.{found_follows, found_empty, found_whole, found_long, head_fails}
 use Rattle.mt_replay.proofs.job.find.Goals as goal
 

@@ -1,7 +1,7 @@
 use Rattle.std.proofs.Common.{rules, ◌∷◌, []}
 use Rattle.std.proofs.lemmas.Result.{on_err_weaker}
 use Rattle.mt_conf.specs.Canonical.{config_text}
-use Rattle.mt_port.proofs.StreamLemmas.{AppendsFront-after, AppendsFront-more}
+use Rattle.mt_port.specs.Inner.Streams.{AppendsFront-after, AppendsFront-more}
 use Rattle.mt_replay.proofs.job.write_opening.Goals as goal
 
 pub returns-in_err-write_config-clause-err : goal.returns-in_err-write_config-clause-err

@@ -1,7 +1,7 @@
 use Rattle.std.proofs.Common.{ℕ, ◌∙◌, ◌++◌, ap, subst, List}
 use Rattle.std.proofs.lemmas.Result.{on_err_weaker}
 use Rattle.mt_port.specs.Streams.{AppendsFront}
-use Rattle.mt_port.proofs.StreamLemmas.{AppendsFront-after}
+use Rattle.mt_port.specs.Inner.Streams.{AppendsFront-after}
 use Rattle.mt_locate.specs.Listed.{fault_lines}
 use Rattle.mt_replay.specs.Locate.{count_text, found_faults}
 use Rattle.mt_replay.specs.Inner.Locates.{located_by}

@@ -3,7 +3,7 @@ use Rattle.mt_port.specs.declared.board.Shape.{Shape}
 use Rattle.mt_text.specs.declared.line.Line.{Line}
 use Rattle.mt_replay.specs.Changes.{Change}
 use Rattle.std.proofs.lemmas.Result.{on_ok_weaker}
-use Rattle.mt_port.proofs.StreamLemmas.{Logs-nil}
+use Rattle.mt_port.specs.Inner.Streams.{Logs-nil}
 use Rattle.mt_replay.specs.declared.form.Form.{Form}
 use Rattle.mt_replay.specs.declared.form.Form.TheVariants as forms
 use Rattle.mt_replay.specs.Machine.{Machine, machine}

@@ -1,4 +1,4 @@
-use Rattle.mt_port.proofs.StreamLemmas.{Logs-append}
+use Rattle.mt_port.specs.Inner.Streams.{Logs-append}
 use Rattle.mt_seq.proofs.Makes.{touched}
 use Rattle.mt_seq.proofs.compare.differs.Goals as goal
 
