@@ -15,10 +15,10 @@ use Rattle.mt_ram.specs.Laws.{PartialTestsKeepTheBoard}
 use Rattle.mt_fls.specs.Table as fls_table
 use Rattle.mt_fls.specs.Event as fls_event
 use Rattle.mt_fls.specs.Laws.{ForegroundTestsKeepTheBoard}
-use Rattle.mt_replay.specs.declared.event.Running.{Running}
-use Rattle.mt_replay.specs.declared.event.Running.TheVariants as rams
-use Rattle.mt_replay.specs.declared.event.FlsRunning.{FlsRunning}
-use Rattle.mt_replay.specs.declared.event.FlsRunning.TheVariants as fls_calls
+use Rattle.mt_replay.specs.declared.driven.Running.{Running}
+use Rattle.mt_replay.specs.declared.driven.Running.TheVariants as rams
+use Rattle.mt_replay.specs.declared.driven.FlsRunning.{FlsRunning}
+use Rattle.mt_replay.specs.declared.driven.FlsRunning.TheVariants as fls_calls
 use Rattle.mt_replay.specs.Machine.{Machine, Step, events_of, fls_events_of, begun, replied, on_board, by_service, running_call, service_of, by_fls_service, fls_running_call, fls_service_of, by_event, step}
 
 -- what is known of the running calls

@@ -25,8 +25,8 @@ use Rattle.mt_ram.specs.declared.state.State.TheVariants.{Suspended}
 use Rattle.mt_ram.specs.State.{RamTst}
 use Rattle.mt_ram.specs.Table.{MainFunction, cell, ram_table}
 use Rattle.mt_ram.specs.Event.{ticking}
-use Rattle.mt_replay.specs.declared.event.Running.{Running as RamRunning}
-use Rattle.mt_replay.specs.declared.event.Running.TheVariants as rams
+use Rattle.mt_replay.specs.declared.driven.Running.{Running as RamRunning}
+use Rattle.mt_replay.specs.declared.driven.Running.TheVariants as rams
 use Rattle.mt_replay.specs.Machine.{Machine, events_of, begun, running_ram}
 use Rattle.mt_replay.specs.Memory.{handled, inner_replies, own_replies}
 use Rattle.mt_replay.specs.Detection.{AcceptsInHandler, counts}

@@ -22,8 +22,8 @@ use Rattle.mt_text.specs.declared.line.Event.TheVariants as event
 use Rattle.mt_text.specs.declared.line.RamCall.{RamCall}
 use Rattle.mt_text.specs.declared.line.RamCall.TheVariants as call
 use Rattle.mt_text.specs.declared.line.Line.{Line}
-use Rattle.mt_replay.specs.declared.event.FlsRunning.{FlsRunning}
-use Rattle.mt_replay.specs.declared.event.FlsRunning.TheVariants as fls_calls
+use Rattle.mt_replay.specs.declared.driven.FlsRunning.{FlsRunning}
+use Rattle.mt_replay.specs.declared.driven.FlsRunning.TheVariants as fls_calls
 use Rattle.mt_replay.specs.Machine.{Machine, Step, replied, on_board, service_of, called, by_ram, running_fls, by_fls_service, fls_running_call, fls_service_of, by_event, step}
 use Rattle.mt_replay.specs.Memory.{own_replies}
 use Rattle.mt_replay.specs.Detection.{AcceptsInHandler, IsUndisturbing, counts}

@@ -48,10 +48,10 @@ use Rattle.mt_conf.specs.declared.config.Config.{Config}
 use Rattle.mt_conf.specs.declared.config.ConfigRefusal.{ConfigRefusal}
 use Rattle.mt_conf.specs.Laws.{AcceptedIsTaken}
 use Rattle.mt_conf.specs.Outcome.{outcome as config_of}
-use Rattle.mt_replay.specs.declared.event.Running.{Running}
-use Rattle.mt_replay.specs.declared.event.Running.TheVariants as rams
-use Rattle.mt_replay.specs.declared.event.FlsRunning.{FlsRunning}
-use Rattle.mt_replay.specs.declared.event.FlsRunning.TheVariants as fls_calls
+use Rattle.mt_replay.specs.declared.driven.Running.{Running}
+use Rattle.mt_replay.specs.declared.driven.Running.TheVariants as rams
+use Rattle.mt_replay.specs.declared.driven.FlsRunning.{FlsRunning}
+use Rattle.mt_replay.specs.declared.driven.FlsRunning.TheVariants as fls_calls
 use Rattle.mt_replay.specs.declared.form.Asked.{Asked}
 use Rattle.mt_replay.specs.declared.form.Asked.TheVariants as asks
 use Rattle.mt_replay.specs.declared.form.Form.TheVariants as forms

@@ -30,10 +30,10 @@ use Rattle.mt_fls.specs.State.{FlsTst}
 use Rattle.mt_fls.specs.Table as fls_table
 use Rattle.mt_fls.specs.Event as fls_event
 use Rattle.mt_conf.specs.declared.config.Config.{Config}
-use Rattle.mt_replay.specs.declared.event.Running.{Running}
-use Rattle.mt_replay.specs.declared.event.Running.TheVariants as calls
-use Rattle.mt_replay.specs.declared.event.FlsRunning.{FlsRunning}
-use Rattle.mt_replay.specs.declared.event.FlsRunning.TheVariants as fls_calls
+use Rattle.mt_replay.specs.declared.driven.Running.{Running}
+use Rattle.mt_replay.specs.declared.driven.Running.TheVariants as calls
+use Rattle.mt_replay.specs.declared.driven.FlsRunning.{FlsRunning}
+use Rattle.mt_replay.specs.declared.driven.FlsRunning.TheVariants as fls_calls
 use Rattle.mt_replay.specs.declared.modules.Modules.{Modules}
 use Rattle.mt_text.specs.declared.line.Event.{Event}
 use Rattle.mt_text.specs.declared.line.Event.TheVariants as event

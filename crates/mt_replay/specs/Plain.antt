@@ -9,8 +9,8 @@ use Rattle.mt_text.specs.declared.line.Line.{Line}
 use Rattle.mt_ram.specs.Plain.{untouched}
 use Rattle.mt_conf.specs.declared.config.Config.{Config}
 use Rattle.mt_conf.specs.Outcome.{outcome as config_of}
-use Rattle.mt_replay.specs.declared.event.Running.{Running}
-use Rattle.mt_replay.specs.declared.event.Running.TheVariants as calls
+use Rattle.mt_replay.specs.declared.driven.Running.{Running}
+use Rattle.mt_replay.specs.declared.driven.Running.TheVariants as calls
 use Rattle.mt_replay.specs.declared.form.Form.TheVariants as forms
 use Rattle.mt_replay.specs.Input.{Ending, Cut, Parted, job_of}
 use Rattle.mt_replay.specs.Machine.{Machine, Step, running, with_ram, begun, events_of, running_call, service_of, called, by_event, started}

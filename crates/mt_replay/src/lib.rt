@@ -3,6 +3,7 @@
 
 mod comparing;
 mod cut;
+mod driven;
 mod event;
 mod form;
 mod head;

@@ -3,10 +3,10 @@ use Rattle.mt_ram.specs.Event.{ticking, full_test}
 use Rattle.mt_ram.specs.Laws.{PartialTestsServeInTime}
 use Rattle.mt_fls.specs.Event as fls_event
 use Rattle.mt_fls.specs.Laws.{ForegroundTestsServeInTime}
-use Rattle.mt_replay.specs.declared.event.Running.{Running}
-use Rattle.mt_replay.specs.declared.event.Running.TheVariants as rams
-use Rattle.mt_replay.specs.declared.event.FlsRunning.{FlsRunning}
-use Rattle.mt_replay.specs.declared.event.FlsRunning.TheVariants as flss
+use Rattle.mt_replay.specs.declared.driven.Running.{Running}
+use Rattle.mt_replay.specs.declared.driven.Running.TheVariants as rams
+use Rattle.mt_replay.specs.declared.driven.FlsRunning.{FlsRunning}
+use Rattle.mt_replay.specs.declared.driven.FlsRunning.TheVariants as flss
 use Rattle.mt_replay.specs.Machine.{events_of, fls_events_of}
 use Rattle.mt_replay.proofs.Latencies.{are_served_in_time}
 use Rattle.mt_replay.proofs.Cuts.{tells_least_ticks}
