@@ -4,12 +4,13 @@ use Rattle.std.proofs.lemmas.Bool.{cases_Bool}
 use Rattle.std.proofs.lemmas.List.{drop_more}
 use Rattle.std.specs.Str.{bytes_eq}
 use Rattle.mt_text.specs.Tokens.{Token}
-use Rattle.mt_text.specs.Forms.{Form, rows, refused, Entry, Opens, Breaks, entered, mapped, ◌>>=◌, at_place, value_at, spot_at, mark_at, mark, value, spot, row, barred, none, done}
+use Rattle.mt_text.specs.Forms.{Form, rows, refused, Entry, Opens, Breaks, entered, mapped, ◌>>=◌, at_place, mark, value, spot, row, barred, none, done}
 use Rattle.mt_text.specs.Reader.{read, named, read_entry, is_done, Gives}
 use Rattle.mt_text.specs.declared.line.LineKind.{LineKind}
 use Rattle.mt_text.specs.declared.line.LineRefusal.{LineRefusal}
 use Rattle.mt_port.specs.declared.board.Shape.{Shape}
 use Rattle.mt_text.specs.declared.line.LineKind.TheVariants.{Spelling}
+use Rattle.mt_text.specs.Values.{value_at, spot_at, mark_at}
 
 -- no row ends at once
 entered_is_no_end : {X : Type 0} (word : List ℕ) (e : Entry X) (more : Form X) → is_done (entered word e more) ≡ false

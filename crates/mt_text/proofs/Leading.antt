@@ -4,8 +4,9 @@ use Rattle.std.proofs.lemmas.Bool.{cases_Bool}
 use Rattle.std.specs.Str.{bytes_eq}
 use Rattle.mt_port.specs.declared.board.Shape.{Shape}
 use Rattle.mt_fault.specs.declared.fault.Spot.{Spot}
-use Rattle.mt_text.specs.Tokens.{Token, begins_word}
-use Rattle.mt_text.specs.Forms.{Form, done, none, row, barred, value, spot, mark, Slot, SpotSlot, step, mapped, mapped_ok, value_at, word_at, spot_at, mark_at}
+use Rattle.mt_text.specs.Tokens.{Token}
+use Rattle.mt_text.specs.Values.{Slot, SpotSlot, value_at, spot_at, mark_at}
+use Rattle.mt_text.specs.Forms.{Form, done, none, row, barred, value, spot, mark, step, mapped, mapped_ok}
 use Rattle.mt_text.specs.Lines.{Part, part_form, settled, Leads}
 use Rattle.mt_text.proofs.Pieces.{bytes_of}
 
@@ -40,17 +41,16 @@ follows_mapped shape f F (w ∷ ws) G h = (mapped f h.0, step_mapped shape f F w
 
 -- a value in its place
 pub record Reads (shape : Shape) (slot : Slot) (bytes : List ℕ) (n : ℕ) : Type 0 where
-  pub kind : begins_word bytes ≡ true
-  pub number : word_at shape slot bytes ≡ Ok n
+  pub place : value_at shape slot bytes ≡ Ok n
 
 pub record ReadsSpot (shape : Shape) (slot : SpotSlot) (bytes : List ℕ) (s : Spot) : Type 0 where
   pub place : spot_at shape slot bytes ≡ Ok s
 
 pub value_step : {X : Type 0} (shape : Shape) (slot : Slot) (form : ℕ → Form X) (bytes : List ℕ) (n : ℕ) → Reads shape slot bytes n → step shape (value slot form) bytes ≡ Ok (form n)
-value_step {X} shape slot form bytes n h = rw (h.kind, h.number) refl
+value_step {X} shape slot form bytes n h = ap (mapped_ok form) h.place
 
 pub spot_step : {X : Type 0} (shape : Shape) (slot : SpotSlot) (form : Spot → Form X) (bytes : List ℕ) (s : Spot) → ReadsSpot shape slot bytes s → step shape (spot slot form) bytes ≡ Ok (form s)
-spot_step {X} shape slot form bytes s h = rw h.place refl
+spot_step {X} shape slot form bytes s h = ap (mapped_ok form) h.place
 
 -- from part to part
 abbrev pub Path : Shape → Form Part → List (List ℕ) → Form Part → Type 0

@@ -1,4 +1,5 @@
 pub mod TokenLemmas
+pub mod Judging
 pub mod FormLemmas
 pub mod LineLemmas
 pub mod RunLemmas

@@ -6,7 +6,8 @@ use Rattle.std.specs.Prelude.{if◌then◌else◌}
 use Rattle.mt_text.specs.declared.request.Mark.{Mark}
 use Rattle.mt_text.specs.Tokens.{Token}
 use Rattle.mt_text.specs.Cursors.{first_is, behind, no_token}
-use Rattle.mt_text.specs.Forms.{Form, done, none, row, barred, value, spot, mark, mark_at, refused, mapped, ◌>>=◌, at_place, value_at, spot_at, step, mapped_ok}
+use Rattle.mt_text.specs.Values.{value_at, spot_at, mark_at}
+use Rattle.mt_text.specs.Forms.{Form, done, none, row, barred, value, spot, mark, refused, mapped, ◌>>=◌, at_place, step, mapped_ok}
 use Rattle.mt_text.specs.Lines.{Part, Start, Ended, Requests, Handler, Open, Operation, Separator, part_form, operation_form, op_form, event, follows, run, settled, whole_at, request, line, last_offset}
 use Rattle.mt_text.specs.Reader.{read, is_done, Continues}
 use Rattle.mt_port.specs.declared.board.Shape.{Shape}

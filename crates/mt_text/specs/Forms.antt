@@ -1,15 +1,13 @@
 -- Forms of lines: what may stand at each place, and which value comes of it.
-use Rattle.std.specs.Prelude.{ℕ, ◌^◌, ◌==◌, ◌||◌, nat_lt, nat_le, not, Bool, true, false, if◌then◌else◌, List, [], ◌∷◌, drop, codes, Option, Some, None, Result, Ok, Err}
+use Rattle.std.specs.Prelude.{ℕ, if◌then◌else◌, List, [], ◌∷◌, Result, Ok, Err}
 use Rattle.std.specs.Str.{bytes_eq}
-use Rattle.mt_hex.specs.Hex.{hex_of}
-use Rattle.mt_text.specs.Tokens.{begins_word, number_of, spot_of}
 use Rattle.mt_port.specs.declared.board.Shape.{Shape}
-use Rattle.mt_word.specs.Word.{width_bits}
 use Rattle.mt_fault.specs.declared.fault.Spot.{Spot}
 use Rattle.mt_text.specs.declared.request.Mark.{Mark}
 use Rattle.mt_text.specs.declared.line.LineKind.{LineKind}
-use Rattle.mt_text.specs.declared.line.LineKind.TheVariants.{Spelling, Number, Address, WordTooWide, OffsetsFall, TooManyRequests, FaultRefused}
+use Rattle.mt_text.specs.declared.line.LineKind.TheVariants.{Spelling}
 use Rattle.mt_text.specs.declared.line.LineRefusal.{LineRefusal}
+use Rattle.mt_text.specs.Values.{Slot, SpotSlot, value_at, spot_at, mark_at}
 
 -- A form of values of X. A row has a word, the form behind it, and the other rows. A barred word is of the kind that may stand there, but breaks a rule;
 -- the form behind it tells the kinds of what follows. A request's mark has the least offset that it may spell, and how many requests stand before it.
@@ -33,9 +31,9 @@ step shape (done x) bytes = Err Spelling
 step shape none bytes = Err Spelling
 step shape (row word form more) bytes = if bytes_eq bytes word then Ok form else step shape more bytes
 step shape (barred word kind form more) bytes = if bytes_eq bytes word then Err kind else step shape more bytes
-step shape (value slot form) bytes = mapped_ok form (judged (value_rules shape slot bytes) (spelled_in slot bytes))
-step shape (spot slot form) bytes = mapped_ok form (judged (spot_rules shape slot bytes) (spot_in bytes))
-step shape (mark last count form) bytes = mapped_ok form (judged (mark_rules last count bytes) (mark_in bytes))
+step shape (value slot form) bytes = mapped_ok form (value_at shape slot bytes)
+step shape (spot slot form) bytes = mapped_ok form (spot_at shape slot bytes)
+step shape (mark last count form) bytes = mapped_ok form (mark_at last count bytes)
 
 -- ---- whole forms
 

@@ -15,7 +15,8 @@ use Rattle.mt_text.specs.declared.value.NumberSlot.TheVariants.{Any, Ram, Flash,
 use Rattle.mt_text.specs.declared.value.SpotPlace.{SpotPlace}
 use Rattle.mt_text.specs.declared.value.SpotPlace.TheVariants as place
 use Rattle.mt_text.specs.Tokens.{Token}
-use Rattle.mt_text.specs.Forms.{Form, done, none, row, barred, value, spot, mark, Entry, Opens, Breaks, Slot, Num, Addr, FlashAddr, OtherAddr, SpotSlot, RamSpot, OtherSpot, FlashSpot, value_at, spot_at, mark_at, ◌>>=◌, refused, at_place}
+use Rattle.mt_text.specs.Values.{Slot, Num, Addr, FlashAddr, OtherAddr, SpotSlot, RamSpot, OtherSpot, FlashSpot, value_at, spot_at, mark_at}
+use Rattle.mt_text.specs.Forms.{Form, done, none, row, barred, value, spot, mark, Entry, Opens, Breaks, ◌>>=◌, refused, at_place}
 use Rattle.mt_text.specs.Lines.{Part, Requests, Operation, request}
 
 -- the next token, and those after it

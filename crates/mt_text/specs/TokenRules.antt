@@ -1,15 +1,13 @@
 -- The table of the rules that a token may break, by what may stand at its place. Of the rules that it breaks, the least is told.
-use Rattle.std.specs.Prelude.{◌≡◌, ℕ, ◌≤◌, ◌^◌, ◌==◌, ◌||◌, nat_lt, nat_le, not, is_none, codes, Bool, true, false, if◌then◌else◌, List, [], ◌∷◌, length, drop, Option, Some, None, ◌⊎◌}
+use Rattle.std.specs.Prelude.{◌≡◌, ℕ, ◌≤◌, nat_le, not, codes, Bool, true, if◌then◌else◌, List, [], ◌∷◌, length, ◌⊎◌}
 use Rattle.std.specs.Str.{bytes_eq}
-use Rattle.mt_word.specs.Word.{width_bits}
 use Rattle.mt_port.specs.declared.board.Shape.{Shape}
 use Rattle.mt_port.specs.declared.request.Module.{Module}
 use Rattle.mt_port.specs.declared.request.Module.TheVariants.{RamTst, FlsTst}
 use Rattle.mt_text.specs.declared.line.LineKind.{LineKind}
 use Rattle.mt_text.specs.declared.line.LineKind.TheVariants.{Spelling, Number, Address, WordTooWide, OffsetsFall, TooManyRequests, TooManyOps, NotInHandler, FaultRefused}
-use Rattle.mt_hex.specs.Hex.{hex_of}
-use Rattle.mt_text.specs.Tokens.{begins_word, number_of, spot_of}
-use Rattle.mt_text.specs.Forms.{Form, done, none, row, barred, value, spot, mark, Slot, Addr, FlashAddr, OtherAddr, Data, Bit, SpotSlot, RamSpot, OtherSpot, FlashSpot, bit_of, begins_mark}
+use Rattle.mt_text.specs.Values.{Rule, value_rules, spot_rules, mark_rules}
+use Rattle.mt_text.specs.Forms.{Form, done, none, row, barred, value, spot, mark}
 use Rattle.mt_text.specs.Lines.{Part, Open, Operation, is_op_word, settled}
 
 -- the numbers of the rules

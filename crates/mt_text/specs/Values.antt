@@ -88,6 +88,9 @@ value_rules shape slot bytes =
     ∷ (FaultRefused, holds (is_first_address slot) (spelled_in slot bytes))
     ∷ []
 
+unfoldable pub value_at : Shape → Slot → List ℕ → Result ℕ LineKind
+value_at shape slot bytes = judged (value_rules shape slot bytes) (spelled_in slot bytes)
+
 -- ---- in the place of a spot
 
 -- the number of words of the memory
@@ -112,6 +115,9 @@ spot_rules shape slot bytes =
     ∷ (Address, holds (λ s. not (nat_lt s.word (size_of shape slot))) (spot_in bytes))
     ∷ (FaultRefused, holds (λ s. not (nat_lt s.bit (width_bits shape.width)) || is_first_word slot s.word) (spot_in bytes))
     ∷ []
+
+unfoldable pub spot_at : Shape → SpotSlot → List ℕ → Result Spot LineKind
+spot_at shape slot bytes = judged (spot_rules shape slot bytes) (spot_in bytes)
 
 -- ---- in the place of a request
 
@@ -141,3 +147,6 @@ mark_rules last count bytes =
     ∷ (OffsetsFall, holds (λ k. nat_lt k.offset last) (mark_in bytes))
     ∷ (TooManyRequests, nat_le 16 count)
     ∷ []
+
+unfoldable pub mark_at : ℕ → ℕ → List ℕ → Result Mark LineKind
+mark_at last count bytes = judged (mark_rules last count bytes) (mark_in bytes)

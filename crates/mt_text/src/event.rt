@@ -1,7 +1,8 @@
 //! Events and application operations.
 
 ghost use Rattle.std.specs.Prelude.{◌≡◌, ◌==◌, codes, true, false};
-ghost use Rattle.mt_text.specs.Forms.{value, spot, done, none, row, mapped, Addr, FlashAddr, OtherAddr, Data, Bit, RamSpot, OtherSpot, FlashSpot};
+ghost use Rattle.mt_text.specs.Values.{Addr, FlashAddr, OtherAddr, Data, Bit, RamSpot, OtherSpot, FlashSpot};
+ghost use Rattle.mt_text.specs.Forms.{value, spot, done, none, row, mapped};
 ghost use Rattle.mt_text.specs.Reader.{read, branch, Gives};
 ghost use Rattle.mt_text.specs.Lines.{app_op, fault, event, direction, tick};
 ghost use Rattle.mt_fault.specs.declared.fault.Fault.TheVariants.{StuckAt, CannotRise, CannotFall, Invert, Force, State, NoCell, Also, Instead};

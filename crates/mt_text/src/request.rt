@@ -1,8 +1,8 @@
 //! Requests.
 
 ghost use Rattle.std.specs.Prelude.{◌≡◌, false, ◌<◌, ◌≤◌, ◌++◌, ◌∷◌, [], ℕ, List, length, IfOk};
-ghost use Rattle.mt_text.specs.Tokens.{begins_word};
-ghost use Rattle.mt_text.specs.Forms.{at_place, mark_at, done, begins_mark, begins_urgent};
+ghost use Rattle.mt_text.specs.Values.{begins_mark, begins_urgent, mark_at};
+ghost use Rattle.mt_text.specs.Forms.{at_place, done};
 ghost use Rattle.mt_text.specs.Lines.{run, Requests, Handler, Operation, Open, request, last_offset, line};
 ghost use Rattle.mt_text.specs.Reader.{Continues, behind_op};
 ghost use Rattle.mt_text.specs.declared.request.Mark.{Mark};
@@ -44,6 +44,7 @@ fn begins_urgent(token: &Token<'_>) -> bool
 }
 
 /// The mark that a token is, behind requests of which there are so many.
+#[tactic(auto, unfolding(crate::specs::Values::mark_at))]
 fn read_mark(token: &Token<'_>, last: u32, count: usize) -> Result<Mark, LineRefusal>
     ensures value { result ≡ at_place token.now.place (mark_at last count token.now.bytes.now) }
     ensures few { IfOk result (λ _. count < 16) }

@@ -1,15 +1,14 @@
 //! Values at their places.
 
-ghost use Rattle.std.specs.Prelude.{◌≡◌, ◌==◌, ◌<◌, ◌^◌, ℕ, List, Some, Ok, Err, nat_lt, not};
+ghost use Rattle.std.specs.Prelude.{◌≡◌, ◌==◌, ◌<◌, ◌^◌, Ok, Err, nat_lt};
 ghost use Rattle.std.specs.Str.{bytes_eq};
 ghost use Rattle.mt_word.specs.Word.{width_bits};
-ghost use Rattle.mt_text.specs.Tokens.{begins_word, number_of};
-ghost use Rattle.mt_text.specs.Forms.{value, spot, done, Data, Bit, broken_if, word_at, spot_word_at};
-ghost use Rattle.mt_text.specs.TokenRules.{size_of, is_first_word};
-ghost use Rattle.mt_text.specs.declared.line.LineKind.TheVariants.{Address, FaultRefused};
+ghost use Rattle.mt_text.specs.Tokens.{begins_word};
+ghost use Rattle.mt_text.specs.Values.{Data, Bit, is_outside, is_first_address, value_at, size_of, is_first_word, spot_at};
+ghost use Rattle.mt_text.specs.Forms.{value, spot, done};
 ghost use Rattle.mt_text.specs.Reader.{read, Gives, slot_of, spot_slot_of};
 ghost use Rattle.mt_text.specs.Lines.{direction};
-ghost use Rattle.mt_text.specs.Cursors.{left, end_of, token_view};
+ghost use Rattle.mt_text.specs.Cursors.{left, end_of};
 
 use crate::cursor::Cursor;
 use crate::line::{LineKind, LineRefusal};
@@ -25,10 +24,10 @@ pub fn refused<T>(kind: LineKind, place: u32) -> Result<T, LineRefusal>
     Err(LineRefusal { kind, place })
 }
 
-pub fn begins_word(token: &Token<'_>) -> bool
-    ensures { result ≡ begins_word token.now.bytes.now }
+fn begins_word(bytes: &[u8]) -> bool
+    ensures { result ≡ begins_word bytes.now }
 {
-    match token.bytes {
+    match bytes {
         [] => false,
         [byte, ..] => is_word(*byte),
     }
@@ -57,48 +56,43 @@ pub enum NumberSlot {
     OtherRam(u32),
 }
 
-fn below(n: u32, size: u32) -> Result<u32, LineKind>
-    ensures { result ≡ broken_if (not (nat_lt n size)) Address (Ok n) }
-{
-    if n < size {
-        Ok(n)
-    } else {
-        Err(LineKind::Address)
-    }
-}
-
-fn other_than(n: u32, first: u32) -> Result<u32, LineKind>
-    ensures { result ≡ broken_if (n == first) FaultRefused (Ok n) }
-{
-    if n == first {
-        Err(LineKind::FaultRefused)
-    } else {
-        Ok(n)
-    }
-}
-
-/// A number in its place, or the least rule that it breaks.
-fn number_in(slot: NumberSlot, shape: Shape, n: u32) -> Result<u32, LineKind>
-    ensures { (bytes : List ℕ) → number_of bytes ≡ Some n → word_at shape (slot_of slot) bytes ≡ result }
+fn is_outside(slot: NumberSlot, shape: Shape, n: u32) -> bool
+    ensures { result ≡ is_outside shape (slot_of slot) n }
 {
     match slot {
-        NumberSlot::Any => Ok(n),
-        NumberSlot::Ram => below(n, shape.ram),
-        NumberSlot::Flash => below(n, shape.flash),
-        NumberSlot::OtherRam(first) => match below(n, shape.ram) {
-            Ok(n) => other_than(n, first),
-            Err(kind) => Err(kind),
-        },
+        NumberSlot::Any => false,
+        NumberSlot::Ram | NumberSlot::OtherRam(_) => n >= shape.ram,
+        NumberSlot::Flash => n >= shape.flash,
     }
 }
 
-fn number_at(slot: NumberSlot, shape: Shape, bytes: &[u8]) -> Result<u32, LineKind>
-    ensures { word_at shape (slot_of slot) bytes.now ≡ result }
+fn is_first_address(slot: NumberSlot, n: u32) -> bool
+    ensures { result ≡ is_first_address (slot_of slot) n }
 {
-    match number_of(bytes) {
-        None => Err(LineKind::Number),
-        Some(n) => number_in(slot, shape, n),
+    match slot {
+        NumberSlot::OtherRam(first) => n == first,
+        NumberSlot::Any | NumberSlot::Ram | NumberSlot::Flash => false,
     }
+}
+
+/// A number in its place, or the first rule that it breaks.
+#[tactic(auto, unfolding(crate::specs::Values::value_at))]
+fn judge_number(slot: NumberSlot, shape: Shape, bytes: &[u8]) -> Result<u32, LineKind>
+    ensures { value_at shape (slot_of slot) bytes.now ≡ result }
+{
+    if !begins_word(bytes) {
+        return Err(LineKind::Spelling);
+    }
+    let Some(n) = number_of(bytes) else {
+        return Err(LineKind::Number);
+    };
+    if is_outside(slot, shape, n) {
+        return Err(LineKind::Address);
+    }
+    if is_first_address(slot, n) {
+        return Err(LineKind::FaultRefused);
+    }
+    Ok(n)
 }
 
 /// Reads a number.
@@ -108,13 +102,27 @@ pub fn number(slot: NumberSlot, shape: Shape, cursor: &mut Cursor<'_>) -> Result
     ensures end { end_of cursor.new ≡ end_of cursor.old }
 {
     let token = cursor.next()?;
-    if !begins_word(&token) {
-        return refused(LineKind::Spelling, token.place);
-    }
-    match number_at(slot, shape, token.bytes) {
+    match judge_number(slot, shape, token.bytes) {
         Ok(n) => Ok(n),
         Err(kind) => refused(kind, token.place),
     }
+}
+
+/// A word in its place, or the first rule that it breaks.
+#[tactic(auto, unfolding(crate::specs::Values::value_at))]
+fn judge_data(shape: Shape, bytes: &[u8]) -> Result<u64, LineKind>
+    ensures { value_at shape Data bytes.now ≡ result }
+{
+    if !begins_word(bytes) {
+        return Err(LineKind::Spelling);
+    }
+    let Some(word) = hex_of(bytes) else {
+        return Err(LineKind::Number);
+    };
+    if !fits(shape.width, word) {
+        return Err(LineKind::WordTooWide);
+    }
+    Ok(word)
 }
 
 /// Reads a word.
@@ -124,28 +132,20 @@ pub fn data(shape: Shape, cursor: &mut Cursor<'_>) -> Result<u64, LineRefusal>
     ensures end { end_of cursor.new ≡ end_of cursor.old }
 {
     let token = cursor.next()?;
-    if !begins_word(&token) {
-        return refused(LineKind::Spelling, token.place);
-    }
-    match hex_of(token.bytes) {
-        None => refused(LineKind::Number, token.place),
-        Some(n) => {
-            if !fits(shape.width, n) {
-                return refused(LineKind::WordTooWide, token.place);
-            }
-            Ok(n)
-        }
+    match judge_data(shape, token.bytes) {
+        Ok(word) => Ok(word),
+        Err(kind) => refused(kind, token.place),
     }
 }
 
 /// Reads a bit.
-#[tactic(auto, unfolding(crate::specs::Reader::read))]
+#[tactic(auto, unfolding(crate::specs::Reader::read, crate::specs::Values::value_at))]
 pub fn bit(shape: Shape, cursor: &mut Cursor<'_>) -> Result<bool, LineRefusal>
     ensures value { Gives result (left cursor.new) (read shape (end_of cursor.old) (value Bit (λ n. done (n == 1))) (left cursor.old)) }
     ensures end { end_of cursor.new ≡ end_of cursor.old }
 {
     let token = cursor.next()?;
-    if !begins_word(&token) {
+    if !begins_word(token.bytes) {
         return refused(LineKind::Spelling, token.place);
     }
     if is(&token, b"0") {
@@ -200,10 +200,17 @@ fn is_first_word(place: SpotPlace, word: u32) -> bool
     }
 }
 
-/// A spot in its place, or the least rule that it breaks.
-fn spot_in(place: SpotPlace, shape: Shape, word: u32, bit: u32) -> Result<Spot, LineKind>
-    ensures { spot_word_at shape (spot_slot_of place) (record { word = word; bit = bit }) ≡ result }
+/// A spot in its place, or the first rule that it breaks.
+#[tactic(auto, unfolding(crate::specs::Values::spot_at))]
+fn judge_spot(place: SpotPlace, shape: Shape, bytes: &[u8]) -> Result<Spot, LineKind>
+    ensures { spot_at shape (spot_slot_of place) bytes.now ≡ result }
 {
+    if !begins_word(bytes) {
+        return Err(LineKind::Spelling);
+    }
+    let Some((word, bit)) = spot_of(bytes) else {
+        return Err(LineKind::Number);
+    };
     if word >= size(place, shape) {
         return Err(LineKind::Address);
     }
@@ -223,14 +230,8 @@ pub fn spot(place: SpotPlace, shape: Shape, cursor: &mut Cursor<'_>) -> Result<S
     ensures end { end_of cursor.new ≡ end_of cursor.old }
 {
     let token = cursor.next()?;
-    if !begins_word(&token) {
-        return refused(LineKind::Spelling, token.place);
-    }
-    match spot_of(token.bytes) {
-        None => refused(LineKind::Number, token.place),
-        Some((word, bit)) => match spot_in(place, shape, word, bit) {
-            Ok(spot) => Ok(spot),
-            Err(kind) => refused(kind, token.place),
-        },
+    match judge_spot(place, shape, token.bytes) {
+        Ok(spot) => Ok(spot),
+        Err(kind) => refused(kind, token.place),
     }
 }
