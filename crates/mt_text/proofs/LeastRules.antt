@@ -15,6 +15,7 @@ use Rattle.mt_text.specs.Values.{Rule, first_broken, spelled_in, value_rules, sp
 use Rattle.mt_text.specs.Forms.{Form, done, none, row, barred, value, spot, mark, step, mapped, mapped_ok}
 use Rattle.mt_text.specs.Lines.{Part, Start, Ended, Requests, Handler, Open, Operation, Separator, op_form, app_op, is_op_word, settled, FirstBroken}
 use Rattle.mt_text.specs.TokenRules.{kind_number, other_module, operation_rules, form_rules, token_rules, Breaks, IsLeastBroken, BreaksNone}
+use Rattle.mt_text.proofs.FormLemmas.{step_mapped}
 use Rattle.mt_text.proofs.Judging.{refusal, first_told}
 
 told_mapped : {A B : Type 0} (f : A → B) (r : Result A LineKind) → refusal (mapped_ok f r) ≡ refusal r
@@ -36,13 +37,7 @@ form_told shape (mark last count g) bytes = told_mapped g (mark_at last count by
 -- ---- operations
 
 told_step : {X Y : Type 0} (shape : Shape) (f : X → Y) (F : Form X) (bytes : List ℕ) → refusal (step shape (mapped f F) bytes) ≡ refusal (step shape F bytes)
-told_step shape f (done x) bytes = refl
-told_step shape f none bytes = refl
-told_step shape f (row w g more) bytes = elim (cases_Bool (bytes_eq bytes w)) [ inl e ↦ rw e refl | inr e ↦ rw e (told_step shape f more bytes) ]
-told_step shape f (barred w kind g more) bytes = elim (cases_Bool (bytes_eq bytes w)) [ inl e ↦ rw e refl | inr e ↦ rw e (told_step shape f more bytes) ]
-told_step shape f (value slot g) bytes = told_mapped (λ n. mapped f (g n)) (value_at shape slot bytes) ∙ sym (told_mapped g (value_at shape slot bytes))
-told_step shape f (spot slot g) bytes = told_mapped (λ n. mapped f (g n)) (spot_at shape slot bytes) ∙ sym (told_mapped g (spot_at shape slot bytes))
-told_step shape f (mark last count g) bytes = told_mapped (λ n. mapped f (g n)) (mark_at last count bytes) ∙ sym (told_mapped g (mark_at last count bytes))
+told_step shape f F bytes = ap refusal (step_mapped shape f F bytes) ∙ told_mapped (mapped f) (step shape F bytes)
 
 -- what a table of seven words tells, by which of them the token is
 abbrev by_word : (ram fls a b c d e : Bool) → Option LineKind → Option LineKind → Option LineKind → Option LineKind

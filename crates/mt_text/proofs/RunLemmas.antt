@@ -38,47 +38,12 @@ later_step : (shape : Shape) (end : ℕ) (h : Form Part) (t : Token) (ts : List 
 unfolding run
 later_step shape end h t ts d = ap (λ (f : Form Part). at_place t.place (step shape f t.bytes) >>= λ g. run shape end g ts) (not_done_settled h d)
 
-done_step : (shape : Shape) (end : ℕ) (h : Form Part) (t : Token) (ts : List Token) → is_done h ≡ true → (at_place t.place (step shape h t.bytes) >>= λ g. run shape end g ts) ≡ refused Spelling t.place
-done_step shape end (done p) t ts d = refl
-done_step shape end none t ts d = absurd cc
-done_step shape end (row w g h) t ts d = absurd cc
-done_step shape end (barred w k b h) t ts d = absurd cc
-done_step shape end (value s g) t ts d = absurd cc
-done_step shape end (spot s g) t ts d = absurd cc
-done_step shape end (mark l c g) t ts d = absurd cc
-
 pub run_read : (shape : Shape) (end : ℕ) (f : Form Part) (ts : List Token) → run shape end f ts ≡ Goes shape end (read shape end f ts)
 unfolding run read
 run_read shape end (done p) ts = refl
-run_read shape end none [] = refl
-run_read shape end none (t ∷ ts) = refl
-run_read shape end (row w g h) [] = refl
-run_read shape end (row w g h) (t ∷ ts) =
-    elim (cases_Bool (bytes_eq t.bytes w)) [
-      | inl e ↦ rw e (run_read shape end g ts)
-      | inr e ↦ elim (cases_Bool (is_done h)) [
-        | inl d ↦ rw (e, d) (done_step shape end h t ts d)
-        | inr d ↦ rw (e, d) (sym (later_step shape end h t ts d) ∙ run_read shape end h (t ∷ ts))
-      ]
-    ]
-run_read shape end (barred w k b h) [] = refl
-run_read shape end (barred w k b h) (t ∷ ts) =
-    elim (cases_Bool (bytes_eq t.bytes w)) [
-      | inl e ↦ rw e refl
-      | inr e ↦ elim (cases_Bool (is_done h)) [
-        | inl d ↦ rw (e, d) (done_step shape end h t ts d)
-        | inr d ↦ rw (e, d) (sym (later_step shape end h t ts d) ∙ run_read shape end h (t ∷ ts))
-      ]
-    ]
-run_read shape end (value s g) [] = refl
-run_read shape end (value s g) (t ∷ ts) =
-    elim (value_at shape s t.bytes) as (λ v. (at_place t.place (mapped_ok g v) >>= λ h. run shape end h ts) ≡ Goes shape end (at_place t.place v >>= λ n. read shape end (g n) ts)) [ Ok n ↦ run_read shape end (g n) ts | Err k ↦ refl ]
-run_read shape end (spot s g) [] = refl
-run_read shape end (spot s g) (t ∷ ts) =
-    elim (spot_at shape s t.bytes) as (λ v. (at_place t.place (mapped_ok g v) >>= λ h. run shape end h ts) ≡ Goes shape end (at_place t.place v >>= λ n. read shape end (g n) ts)) [ Ok n ↦ run_read shape end (g n) ts | Err k ↦ refl ]
-run_read shape end (mark l c g) [] = refl
-run_read shape end (mark l c g) (t ∷ ts) =
-    elim (mark_at l c t.bytes) as (λ v. (at_place t.place (mapped_ok g v) >>= λ h. run shape end h ts) ≡ Goes shape end (at_place t.place v >>= λ n. read shape end (g n) ts)) [ Ok n ↦ run_read shape end (g n) ts | Err k ↦ refl ]
+run_read shape end f [] = refl
+run_read shape end f (t ∷ ts) =
+    elim (step shape f t.bytes) as (λ r. (at_place t.place r >>= λ g. run shape end g ts) ≡ Goes shape end (at_place t.place r >>= λ g. read shape end g ts)) [ Ok g ↦ run_read shape end g ts | Err kind ↦ refl ]
 
 -- a part, and a token that stands there
 pub run_part : (shape : Shape) (end : ℕ) (p : Part) (t : Token) (ts : List Token) → is_done (part_form p) ≡ false → run shape end (done p) (t ∷ ts) ≡ Goes shape end (read shape end (part_form p) (t ∷ ts))

@@ -15,14 +15,9 @@ use Rattle.mt_text.specs.declared.value.NumberSlot.TheVariants.{Any, Ram, Flash,
 use Rattle.mt_text.specs.declared.value.SpotPlace.{SpotPlace}
 use Rattle.mt_text.specs.declared.value.SpotPlace.TheVariants as place
 use Rattle.mt_text.specs.Tokens.{Token}
-use Rattle.mt_text.specs.Values.{Slot, Num, Addr, FlashAddr, OtherAddr, SpotSlot, RamSpot, OtherSpot, FlashSpot, value_at, spot_at, mark_at}
-use Rattle.mt_text.specs.Forms.{Form, done, none, row, barred, value, spot, mark, Entry, Opens, Breaks, ◌>>=◌, refused, at_place}
+use Rattle.mt_text.specs.Values.{Slot, Num, Addr, FlashAddr, OtherAddr, SpotSlot, RamSpot, OtherSpot, FlashSpot}
+use Rattle.mt_text.specs.Forms.{Form, done, Entry, Opens, Breaks, step, ◌>>=◌, refused, at_place}
 use Rattle.mt_text.specs.Lines.{Part, Requests, Operation, request}
-
--- the next token, and those after it
-abbrev pub next : ℕ → List Token → Result (Token × List Token) LineRefusal
-next end [] = refused Spelling end
-next end (t ∷ ts) = Ok (t, ts)
 
 -- the form has no further token
 abbrev pub is_done : {X : Type 0} → Form X → Bool
@@ -32,14 +27,8 @@ is_done _ = false
 -- the value of a form, from left to right, and the tokens after it
 unfoldable pub read : {X : Type 0} → Shape → ℕ → Form X → List Token → Result (X × List Token) LineRefusal
 read shape end (done x) ts = Ok (x, ts)
-read shape end none ts = next end ts >>= λ n. refused Spelling n.0.place
-read shape end (row word form more) ts =
-    next end ts >>= λ n. if bytes_eq n.0.bytes word then read shape end form n.1 else (if is_done more then refused Spelling n.0.place else read shape end more ts)
-read shape end (barred word kind form more) ts =
-    next end ts >>= λ n. if bytes_eq n.0.bytes word then refused kind n.0.place else (if is_done more then refused Spelling n.0.place else read shape end more ts)
-read shape end (value slot form) ts = next end ts >>= λ n. at_place n.0.place (value_at shape slot n.0.bytes) >>= λ v. read shape end (form v) n.1
-read shape end (spot slot form) ts = next end ts >>= λ n. at_place n.0.place (spot_at shape slot n.0.bytes) >>= λ v. read shape end (form v) n.1
-read shape end (mark last count form) ts = next end ts >>= λ n. at_place n.0.place (mark_at last count n.0.bytes) >>= λ v. read shape end (form v) n.1
+read shape end form [] = refused Spelling end
+read shape end form (t ∷ ts) = at_place t.place (step shape form t.bytes) >>= λ g. read shape end g ts
 
 -- the same, behind the first token
 abbrev pub branch : {X : Type 0} → Shape → ℕ → Form X → Token → List Token → Result (X × List Token) LineRefusal
