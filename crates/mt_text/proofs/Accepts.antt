@@ -109,7 +109,7 @@ spot_is_in shape slot bytes s h =
     (passed (λ (t : Spot). not (nat_lt t.bit (width_bits shape.width)) || is_first_word slot t.word) (spot_in bytes) s m.0.1.1.1.0 m.1) in
     in_memory shape slot s (below s.word (size_of shape slot) inside) (below s.bit (width_bits shape.width) tests.0) tests.1
 
-mark_is_in : (last count : ℕ) (bytes : List ℕ) (k : Mark) → mark_at last count bytes ≡ Ok k → IsMark last count k.offset
+pub mark_is_in : (last count : ℕ) (bytes : List ℕ) (k : Mark) → mark_at last count bytes ≡ Ok k → IsMark last count k.offset
 unfolding mark_at
 mark_is_in last count bytes k h =
     let m = judged_ok (mark_rules last count bytes) (mark_in bytes) k h in

@@ -23,7 +23,7 @@ entered_is_no_end : {X : Type 0} (word : List ℕ) (e : Entry X) (more : Form X)
 entered_is_no_end word (Opens form) more = refl
 entered_is_no_end word (Breaks kind form) more = refl
 
-rows_are_no_end : {N X : Type 0} (name : N → List ℕ) (entry : N → Entry X) (ns : List N) → is_done (rows name entry ns) ≡ false
+pub rows_are_no_end : {N X : Type 0} (name : N → List ℕ) (entry : N → Entry X) (ns : List N) → is_done (rows name entry ns) ≡ false
 rows_are_no_end name entry [] = refl
 rows_are_no_end name entry (n ∷ ns) = entered_is_no_end (name n) (entry n) (rows name entry ns)
 
@@ -109,31 +109,11 @@ read_mapped {X} {Y} shape end f F (t ∷ ts) =
       | Err kind ↦ refl
     ]
 
--- what is mapped, where a function gave the first
-pub mapped_ok_of : {X Y : Type 0} (shape : Shape) (end : ℕ) (f : X → Y) (F : Form X) (ts : List Token) (x : X) (rest : List Token) → read shape end F ts ≡ Ok (x, rest) → read shape end (mapped f F) ts ≡ Ok (f x, rest)
-mapped_ok_of {X} {Y} shape end f F ts x rest h = read_mapped shape end f F ts ∙ ap (λ (r : Result (X × List Token) LineRefusal). r >>= λ r. Ok (f r.0, r.1)) h
-
-pub mapped_err_of : {X Y : Type 0} (shape : Shape) (end : ℕ) (f : X → Y) (F : Form X) (ts : List Token) (e : LineRefusal) → read shape end F ts ≡ Err e → read shape end (mapped f F) ts ≡ Err e
-mapped_err_of {X} {Y} shape end f F ts e h = read_mapped shape end f F ts ∙ ap (λ (r : Result (X × List Token) LineRefusal). r >>= λ r. Ok (f r.0, r.1)) h
-
 -- a form that doesn't end at once needs a token
 pub read_end : {X : Type 0} (shape : Shape) (end : ℕ) (F : Form X) → is_done F ≡ false → read shape end F [] ≡ refused Spelling end
 unfolding read
 read_end shape end (done x) d = absurd cc
 read_end shape end F d = refl
-
--- ---- behind a word that a function took
-
-pub taken_ok : {X Y : Type 0} (shape : Shape) (end end2 : ℕ) (f : X → Y) (F : Form X) (ts : List Token) (t : Token) (more : List Token) (x : X) (rest : List Token)
-    → ts ≡ t ∷ more → end2 ≡ end → read shape end2 F (t ∷ more) ≡ Ok (x, rest) → read shape end (mapped f F) ts ≡ Ok (f x, rest)
-taken_ok {X} {Y} shape end end2 f F ts t more x rest e s h = ap (read shape end (mapped f F)) e ∙ mapped_ok_of shape end f F (t ∷ more) x rest (ap (λ (n : ℕ). read shape n F (t ∷ more)) (sym s) ∙ h)
-
-pub taken_err : {X Y : Type 0} (shape : Shape) (end end2 : ℕ) (f : X → Y) (F : Form X) (ts : List Token) (t : Token) (more : List Token) (r : LineRefusal)
-    → ts ≡ t ∷ more → end2 ≡ end → read shape end2 F (t ∷ more) ≡ Err r → read shape end (mapped f F) ts ≡ Err r
-taken_err {X} {Y} shape end end2 f F ts t more r e s h = ap (read shape end (mapped f F)) e ∙ mapped_err_of shape end f F (t ∷ more) r (ap (λ (n : ℕ). read shape n F (t ∷ more)) (sym s) ∙ h)
-
-pub taken_end : {X Y : Type 0} (shape : Shape) (end : ℕ) (f : X → Y) (F : Form X) (ts : List Token) (r : LineRefusal) → is_done F ≡ false → ts ≡ [] → r ≡ record { kind = Spelling; place = end } → read shape end (mapped f F) ts ≡ Err r
-taken_end {X} {Y} shape end f F ts r d e h = ap (read shape end (mapped f F)) e ∙ read_end shape end (mapped f F) (is_done_mapped f F ∙ d) ∙ (let E : LineRefusal → Result (Y × List Token) LineRefusal = λ x. Err x in ap E (sym h))
 
 pub is_done_of_mapped : {X Y : Type 0} (f : X → Y) (F : Form X) → is_done F ≡ false → is_done (mapped f F) ≡ false
 is_done_of_mapped f F d = is_done_mapped f F ∙ d
