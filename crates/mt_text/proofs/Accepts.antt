@@ -88,8 +88,8 @@ value_in : (shape : Shape) (slot : Slot) (bytes : List ℕ) (n : ℕ) → value_
 unfolding value_at
 value_in shape slot bytes n h =
     let m = judged_ok (value_rules shape slot bytes) (spelled_in slot bytes) n h in
-    in_slot shape slot bytes n m.1 (passed (is_outside shape slot) (spelled_in slot bytes) n m.0.1.1.0 m.1) (passed (is_too_wide shape slot) (spelled_in slot bytes) n m.0.1.1.1.0 m.1)
-    (passed (is_first_address slot) (spelled_in slot bytes) n m.0.1.1.1.1.0 m.1)
+    in_slot shape slot bytes n m.1 (passed (is_outside shape slot) (spelled_in slot bytes) n (assumption m) m.1) (passed (is_too_wide shape slot) (spelled_in slot bytes) n (assumption m) m.1)
+    (passed (is_first_address slot) (spelled_in slot bytes) n (assumption m) m.1)
 
 in_memory : (shape : Shape) (slot : SpotSlot) (s : Spot) → s.word < size_of shape slot → s.bit < width_bits shape.width → is_first_word slot s.word ≡ false → IsSpotIn shape slot s
 in_memory shape RamSpot s w b f = (w, (b, tt))
@@ -104,9 +104,9 @@ spot_is_in : (shape : Shape) (slot : SpotSlot) (bytes : List ℕ) (s : Spot) →
 unfolding spot_at
 spot_is_in shape slot bytes s h =
     let m = judged_ok (spot_rules shape slot bytes) (spot_in bytes) s h in
-    let inside = passed (λ (t : Spot). not (nat_lt t.word (size_of shape slot))) (spot_in bytes) s m.0.1.1.0 m.1 in
+    let inside = passed (λ (t : Spot). not (nat_lt t.word (size_of shape slot))) (spot_in bytes) s (assumption m) m.1 in
     let tests = neither (not (nat_lt s.bit (width_bits shape.width))) (is_first_word slot s.word)
-    (passed (λ (t : Spot). not (nat_lt t.bit (width_bits shape.width)) || is_first_word slot t.word) (spot_in bytes) s m.0.1.1.1.0 m.1) in
+    (passed (λ (t : Spot). not (nat_lt t.bit (width_bits shape.width)) || is_first_word slot t.word) (spot_in bytes) s (assumption m) m.1) in
     in_memory shape slot s (below s.word (size_of shape slot) inside) (below s.bit (width_bits shape.width) tests.0) tests.1
 
 pub mark_is_in : (last count : ℕ) (bytes : List ℕ) (k : Mark) → mark_at last count bytes ≡ Ok k → IsMark last count k.offset
@@ -115,8 +115,8 @@ mark_is_in last count bytes k h =
     let m = judged_ok (mark_rules last count bytes) (mark_in bytes) k h in
     let n = after_option_map (λ (n : ℕ). record { offset = n; urgent = begins_urgent bytes }) (number_of (drop 1 bytes)) k m.1 in
     let same : n.0 ≡ k.offset = ap (λ (x : Mark). x.offset) n.2 in
-    let rises : nat_lt k.offset last ≡ false = passed (λ (j : Mark). nat_lt j.offset last) (mark_in bytes) k m.0.1.1.0 m.1 in
-    let room : nat_le 16 count ≡ false = m.0.1.1.1.0 in
+    let rises : nat_lt k.offset last ≡ false = passed (λ (j : Mark). nat_lt j.offset last) (mark_in bytes) k (assumption m) m.1 in
+    let room : nat_le 16 count ≡ false = assumption m in
     (subst (λ (x : ℕ). IsNumber x) same (number_small (drop 1 bytes) n.0 n.1), grind (arith, nat_tests), grind (arith, nat_tests))
 
 -- a step keeps what holds of every value

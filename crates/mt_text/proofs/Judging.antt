@@ -1,11 +1,14 @@
 -- What the judgement of a token says of the rules of its place.
-use Rattle.std.proofs.Common.{◌≡◌, ◌≢◌, ℕ, not, is_none, Bool, true, false, List, [], ◌∷◌, Option, Some, None, Result, Ok, Err, refl, ap, subst, inl, inr}
+use Rattle.std.proofs.Common.{◌≡◌, ◌≢◌, ℕ, ◌≤◌, nat_le, ◌&&◌, not, is_none, Bool, true, false, List, [], ◌∷◌, Option, Some, None, Result, Ok, Err, refl, ap, subst, inl, inr, arith}
 use Rattle.std.proofs.lemmas.Bool.{cases_Bool}
+use Rattle.std.proofs.lemmas.Bool.Decides.{nat_tests}
 use Rattle.std.specs.Option.{option_map}
 use Rattle.mt_text.specs.declared.line.LineKind.{LineKind}
 use Rattle.mt_text.specs.declared.line.LineKind.TheVariants.{Spelling, Number}
 use Rattle.mt_text.specs.Values.{Rule, holds, first_broken, told, judged}
 use Rattle.mt_text.specs.Forms.{mapped_ok}
+use Rattle.mt_text.specs.TokenRules.{kind_number}
+use Rattle.mt_text.proofs.Numbers.{both}
 
 -- ---- a token that is taken
 
@@ -60,21 +63,26 @@ first_told true spelled later = refl
 first_told false None later = refl
 first_told false (Some x) later = refusal_told (first_broken later) x
 
--- none of them is rule 1
-abbrev pub AreLater : List Rule → Type 0
-AreLater [] = Unit {0}
-AreLater (rule ∷ rules) = (rule.0 ≢ Spelling) × AreLater rules
+-- no number of theirs is below n
+abbrev pub are_from : ℕ → List Rule → Bool
+are_from n [] = true
+are_from n (rule ∷ rules) = nat_le n (kind_number rule.0) && are_from n rules
 
-later_broken : (rules : List Rule) → AreLater rules → first_broken rules ≢ Some Spelling
-later_broken [] l h = cc
-later_broken (rule ∷ rules) l h = elim (cases_Bool rule.1) [ inl t ↦ l.0 (let q = rw t at h in cc) | inr f ↦ later_broken rules l.1 (rw f at h) ]
+pub first_from : (n : ℕ) (rules : List Rule) (kind : LineKind) → are_from n rules ≡ true → first_broken rules ≡ Some kind → n ≤ kind_number kind
+first_from n [] kind f h = absurd cc
+first_from n (rule ∷ rules) kind f h =
+    let m = both (nat_le n (kind_number rule.0)) (are_from n rules) f in
+    elim (cases_Bool rule.1) [
+      | inl t ↦ let q = rw t at h in let same : rule.0 ≡ kind = cc in let least = m.0 in subst (λ (k : LineKind). n ≤ kind_number k) same (grind (arith, nat_tests))
+      | inr e ↦ first_from n rules kind m.1 (rw e at h)
+    ]
 
-later_told : {A : Type 0} (broken : Option LineKind) (spelled : Option A) → broken ≢ Some Spelling → told broken spelled ≢ Err Spelling
+later_told : {A : Type 0} (broken : Option LineKind) (spelled : Option A) → (broken ≡ Some Spelling → ⊥) → told broken spelled ≢ Err Spelling
 later_told None None l h = cc
 later_told None (Some x) l h = cc
 later_told (Some kind) spelled l h = l (let same : kind ≡ Spelling = cc in ap (λ (k : LineKind). Some k) same)
 
 -- rule 1 is told where the token does not begin so
-pub spelling_told : {A : Type 0} (begins : Bool) (later : List Rule) (spelled : Option A) → AreLater later → judged ((Spelling, not begins) ∷ later) spelled ≡ Err Spelling → begins ≡ false
+pub spelling_told : {A : Type 0} (begins : Bool) (later : List Rule) (spelled : Option A) → are_from 2 later ≡ true → judged ((Spelling, not begins) ∷ later) spelled ≡ Err Spelling → begins ≡ false
 spelling_told false later spelled l h = refl
-spelling_told true later spelled l h = absurd (later_told (first_broken later) spelled (later_broken later l) h)
+spelling_told true later spelled l h = absurd (later_told (first_broken later) spelled (λ e. let two : 2 ≤ 1 = first_from 2 later Spelling l e in omega arith) h)

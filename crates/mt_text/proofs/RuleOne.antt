@@ -18,7 +18,7 @@ use Rattle.mt_text.specs.declared.line.Line.{Line}
 use Rattle.mt_text.specs.declared.line.LineKind.{LineKind}
 use Rattle.mt_text.specs.declared.line.LineRefusal.{LineRefusal}
 use Rattle.std.proofs.lemmas.List.{append-nil}
-use Rattle.mt_text.specs.declared.line.LineKind.TheVariants.{Spelling, Number, Address, FaultRefused, WordTooWide, OffsetsFall, TooManyRequests, TooManyOps, NotInHandler}
+use Rattle.mt_text.specs.declared.line.LineKind.TheVariants.{Spelling, TooManyOps, NotInHandler}
 use Rattle.mt_text.specs.Tokens.{Token, begins_word}
 use Rattle.mt_text.specs.Values.{Addr, begins_mark, spelled_in, value_rules, spot_in, spot_rules, mark_in, mark_rules, value_at, spot_at, mark_at}
 use Rattle.mt_text.specs.Forms.{Form, done, none, row, barred, value, spot, mark, step, mapped, mapped_ok}
@@ -140,24 +140,6 @@ taken shape (mark l c g) bytes G h = let m = after_mapped g (mark_at l c bytes) 
 
 -- ---- rule 1 in a form
 
-number_later : Number ≢ Spelling
-number_later e = cc
-
-address_later : Address ≢ Spelling
-address_later e = cc
-
-fault_later : FaultRefused ≢ Spelling
-fault_later e = cc
-
-wide_later : WordTooWide ≢ Spelling
-wide_later e = cc
-
-offsets_later : OffsetsFall ≢ Spelling
-offsets_later e = cc
-
-requests_later : TooManyRequests ≢ Spelling
-requests_later e = cc
-
 handler_later : NotInHandler ≢ Spelling
 handler_later e = cc
 
@@ -178,11 +160,11 @@ no_kind s shape (row w form more) bytes b h =
 no_kind s shape (barred w k form more) bytes b h =
     elim (cases_Bool (bytes_eq bytes w)) [ inl e ↦ absurd (b.0 (let g = rw e at h in let q : k ≡ Spelling = cc in q)) | inr e ↦ let g = rw e at h in rw e (no_kind s shape more bytes b.2 g) ]
 no_kind s shape (value slot form) bytes b h =
-    rw (spelling_told (begins_word bytes) (drop 1 (value_rules shape slot bytes)) (spelled_in slot bytes) (number_later, (address_later, (wide_later, (fault_later, tt)))) (mapped_later form (value_at shape slot bytes) h)) refl
+    rw (spelling_told (begins_word bytes) (drop 1 (value_rules shape slot bytes)) (spelled_in slot bytes) refl (mapped_later form (value_at shape slot bytes) h)) refl
 no_kind s shape (spot slot form) bytes b h =
-    rw (spelling_told (begins_word bytes) (drop 1 (spot_rules shape slot bytes)) (spot_in bytes) (number_later, (address_later, (fault_later, tt))) (mapped_later form (spot_at shape slot bytes) h)) refl
+    rw (spelling_told (begins_word bytes) (drop 1 (spot_rules shape slot bytes)) (spot_in bytes) refl (mapped_later form (spot_at shape slot bytes) h)) refl
 no_kind s shape (mark l c form) bytes b h =
-    rw (spelling_told (begins_mark bytes) (drop 1 (mark_rules l c bytes)) (mark_in bytes) (number_later, (offsets_later, (requests_later, tt))) (mapped_later form (mark_at l c bytes) h)) refl
+    rw (spelling_told (begins_mark bytes) (drop 1 (mark_rules l c bytes)) (mark_in bytes) refl (mapped_later form (mark_at l c bytes) h)) refl
 
 -- a token of a kind, or rule 1
 kind_or_rule : {X : Type 0} (shape : Shape) (F : Form X) (bytes : List ℕ) → ((G : Form X) × Allows F bytes G) ⊎ (step shape F bytes ≡ Err Spelling)

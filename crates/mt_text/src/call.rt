@@ -11,10 +11,7 @@ use crate::value::{NumberPlace, refused, value};
 use mt_port::{HandlerCall, Shape};
 
 /// Reads a service of RamTst.
-pub fn ram_call(
-    shape: Shape,
-    cursor: &mut Cursor<'_>,
-) -> Result<RamCall, LineRefusal>
+pub fn ram_call(shape: Shape, cursor: &mut Cursor<'_>) -> Result<RamCall, LineRefusal>
     ensures { Reads shape ram_call cursor.old cursor.new result }
 {
     let word = cursor.next()?;
@@ -42,23 +39,36 @@ fn ram_call_of(
         RamService::Resume => Ok(RamCall::Resume),
         RamService::GetExecutionStatus => Ok(RamCall::GetExecutionStatus),
         RamService::GetTestResult => Ok(RamCall::GetTestResult),
-        RamService::GetTestResultPerBlock => Ok(RamCall::GetTestResultPerBlock(value(NumberPlace::Any, shape, cursor)?)),
+        RamService::GetTestResultPerBlock => Ok(RamCall::GetTestResultPerBlock(value(
+            NumberPlace::Any,
+            shape,
+            cursor,
+        )?)),
         RamService::GetAlgParams => Ok(RamCall::GetAlgParams),
         RamService::GetTestAlgorithm => Ok(RamCall::GetTestAlgorithm),
         RamService::GetNumberOfTestedCells => Ok(RamCall::GetNumberOfTestedCells),
-        RamService::SelectAlgParams => Ok(RamCall::SelectAlgParams(value(NumberPlace::Any, shape, cursor)?)),
-        RamService::ChangeNumberOfTestedCells => Ok(RamCall::ChangeNumberOfTestedCells(value(NumberPlace::Any, shape, cursor)?)),
+        RamService::SelectAlgParams => Ok(RamCall::SelectAlgParams(value(
+            NumberPlace::Any,
+            shape,
+            cursor,
+        )?)),
+        RamService::ChangeNumberOfTestedCells => Ok(RamCall::ChangeNumberOfTestedCells(value(
+            NumberPlace::Any,
+            shape,
+            cursor,
+        )?)),
         RamService::RunFullTest => Ok(RamCall::RunFullTest),
-        RamService::RunPartialTest => Ok(RamCall::RunPartialTest(value(NumberPlace::Any, shape, cursor)?)),
+        RamService::RunPartialTest => Ok(RamCall::RunPartialTest(value(
+            NumberPlace::Any,
+            shape,
+            cursor,
+        )?)),
         RamService::GetVersionInfo => Ok(RamCall::GetVersionInfo),
     }
 }
 
 /// Reads a service of RamTst in a handler.
-pub fn ram_handler_call(
-    shape: Shape,
-    cursor: &mut Cursor<'_>,
-) -> Result<HandlerCall, LineRefusal>
+pub fn ram_handler_call(shape: Shape, cursor: &mut Cursor<'_>) -> Result<HandlerCall, LineRefusal>
     ensures { Reads shape ram_handler_call cursor.old cursor.new result }
 {
     let word = cursor.next()?;
@@ -84,7 +94,11 @@ fn ram_handler_call_of(
         RamService::Resume => Ok(HandlerCall::RamResume),
         RamService::GetExecutionStatus => Ok(HandlerCall::RamGetExecutionStatus),
         RamService::GetTestResult => Ok(HandlerCall::RamGetTestResult),
-        RamService::GetTestResultPerBlock => Ok(HandlerCall::RamGetTestResultPerBlock(value(NumberPlace::Any, shape, cursor)?)),
+        RamService::GetTestResultPerBlock => Ok(HandlerCall::RamGetTestResultPerBlock(value(
+            NumberPlace::Any,
+            shape,
+            cursor,
+        )?)),
         RamService::Init
         | RamService::DeInit
         | RamService::GetAlgParams
@@ -99,10 +113,7 @@ fn ram_handler_call_of(
 }
 
 /// Reads a service of FlsTst.
-pub fn fls_call(
-    shape: Shape,
-    cursor: &mut Cursor<'_>,
-) -> Result<FlsCall, LineRefusal>
+pub fn fls_call(shape: Shape, cursor: &mut Cursor<'_>) -> Result<FlsCall, LineRefusal>
     ensures { Reads shape fls_call cursor.old cursor.new result }
 {
     let word = cursor.next()?;
@@ -137,10 +148,7 @@ fn fls_call_of(
 }
 
 /// Reads a service of FlsTst in a handler.
-pub fn fls_handler_call(
-    shape: Shape,
-    cursor: &mut Cursor<'_>,
-) -> Result<HandlerCall, LineRefusal>
+pub fn fls_handler_call(shape: Shape, cursor: &mut Cursor<'_>) -> Result<HandlerCall, LineRefusal>
     ensures { Reads shape fls_handler_call cursor.old cursor.new result }
 {
     let word = cursor.next()?;

@@ -48,7 +48,8 @@ pub fn app_op(word: &Token<'_>, shape: Shape, cursor: &mut Cursor<'_>) -> Result
 /// Reads the spots of an aggressor and of its victim.
 #[tactic(auto, unfolding(crate::specs::Reader::read))]
 fn coupled(shape: Shape, cursor: &mut Cursor<'_>) -> Result<(Spot, Spot), LineRefusal>
-    ensures { Reads shape (spot RamSpot (λ a. spot (OtherSpot a.word) (λ v. done (a, v)))) cursor.old cursor.new result }
+    ensures { Reads shape (spot RamSpot (λ a. spot (OtherSpot a.word) (λ v. done (a, v))))
+        cursor.old cursor.new result }
 {
     let agg = value(SpotPlace::Ram, shape, cursor)?;
     let vic = value(SpotPlace::OtherRam(agg.word), shape, cursor)?;
@@ -58,7 +59,8 @@ fn coupled(shape: Shape, cursor: &mut Cursor<'_>) -> Result<(Spot, Spot), LineRe
 /// Reads what follows `sa`.
 #[tactic(auto, unfolding(crate::specs::Reader::read))]
 fn stuck_at(shape: Shape, cursor: &mut Cursor<'_>) -> Result<Fault, LineRefusal>
-    ensures { Reads shape (spot RamSpot (λ v. value Bit (λ b. done (StuckAt v (b == 1))))) cursor.old cursor.new result }
+    ensures { Reads shape (spot RamSpot (λ v. value Bit (λ b. done (StuckAt v (b == 1)))))
+        cursor.old cursor.new result }
 {
     let vic = value(SpotPlace::Ram, shape, cursor)?;
     let held = value(BitPlace, shape, cursor)?;
@@ -163,7 +165,8 @@ fn also(shape: Shape, cursor: &mut Cursor<'_>) -> Result<Fault, LineRefusal>
 /// Reads what follows `af-instead`.
 #[tactic(auto, unfolding(crate::specs::Reader::read))]
 fn instead(shape: Shape, cursor: &mut Cursor<'_>) -> Result<Fault, LineRefusal>
-    ensures { Reads shape (value Addr (λ a. value (OtherAddr a) (λ b. done (Instead a b)))) cursor.old cursor.new result }
+    ensures { Reads shape (value Addr (λ a. value (OtherAddr a) (λ b. done (Instead a b))))
+        cursor.old cursor.new result }
 {
     let addr = value(NumberPlace::Ram, shape, cursor)?;
     let other = value(NumberPlace::OtherRam(addr), shape, cursor)?;
