@@ -1,11 +1,9 @@
 -- Words that lead from one form to another.
-use Rattle.std.proofs.Common.{◌≡◌, ℕ, true, List, [], ◌∷◌, ◌++◌, Ok, Err, refl, sym, ap, subst, ◌∙◌, inl, inr}
-use Rattle.std.proofs.lemmas.Bool.{cases_Bool}
-use Rattle.std.specs.Str.{bytes_eq}
+use Rattle.std.proofs.Common.{◌≡◌, ℕ, List, [], ◌∷◌, ◌++◌, Ok, sym, ap, subst, ◌∙◌}
 use Rattle.mt_port.specs.declared.board.Shape.{Shape}
 use Rattle.mt_fault.specs.declared.fault.Spot.{Spot}
 use Rattle.mt_text.specs.Tokens.{Token}
-use Rattle.mt_text.specs.Values.{Slot, SpotSlot, value_at, spot_at, mark_at}
+use Rattle.mt_text.specs.Values.{Slot, SpotSlot, value_at, spot_at}
 use Rattle.mt_text.specs.Forms.{Form, done, none, row, barred, value, spot, mark, step, mapped, mapped_ok}
 use Rattle.mt_text.specs.Lines.{Part, part_form, settled, Leads}
 use Rattle.mt_text.proofs.Pieces.{bytes_of}

@@ -14,8 +14,8 @@ use Rattle.mt_text.specs.declared.line.LineRefusal.{LineRefusal}
 use Rattle.mt_text.specs.Tokens.{Token, begins_word}
 use Rattle.mt_text.specs.Values.{Rule, first_broken, spelled_in, value_rules, spot_in, spot_rules, begins_mark, mark_in, mark_rules, value_at, spot_at, mark_at}
 use Rattle.mt_text.specs.Forms.{Form, done, none, row, barred, value, spot, mark, step, mapped, mapped_ok}
-use Rattle.mt_text.specs.Lines.{Part, Start, Ended, Requests, Handler, Open, Operation, Separator, op_form, app_op, is_op_word, settled, FirstBroken}
-use Rattle.mt_text.specs.TokenRules.{kind_number, other_module, operation_rules, form_rules, token_rules, Breaks, IsLeastBroken, BreaksNone}
+use Rattle.mt_text.specs.Lines.{Part, Open, Operation, Separator, op_form, app_op, is_op_word, settled, FirstBroken}
+use Rattle.mt_text.specs.TokenRules.{kind_number, other_module, form_rules, token_rules, Breaks, IsLeastBroken, BreaksNone}
 use Rattle.mt_text.proofs.FormLemmas.{step_mapped}
 use Rattle.mt_text.proofs.Judging.{refusal, first_told, are_from}
 use Rattle.mt_text.proofs.Numbers.{both}

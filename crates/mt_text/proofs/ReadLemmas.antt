@@ -9,8 +9,8 @@ use Rattle.mt_text.specs.declared.token.Token.{Token as CodeToken}
 use Rattle.mt_text.specs.Tokens.{Token}
 use Rattle.mt_text.specs.Cursors.{left, end_of, token_view, Takes}
 use Rattle.mt_text.specs.Forms.{Form, Entry, rows, done, step, mapped, refused, at_place, ◌>>=◌}
-use Rattle.mt_text.specs.Reader.{read, read_entry, is_done, named, Gives, Leaves, Reads, ReadsFrom, ReadsEntry}
-use Rattle.mt_text.proofs.FormLemmas.{read_token, read_end, read_mapped, rows_are_no_end, rows_named, rows_none}
+use Rattle.mt_text.specs.Reader.{read, is_done, named, Gives, Leaves, Reads, ReadsFrom, ReadsEntry}
+use Rattle.mt_text.proofs.FormLemmas.{read_token, read_end, read_mapped, rows_named, rows_none}
 
 -- what was read, by another name
 pub same_read : {X : Type 0} (a b : Result (X × List Token) LineRefusal) (old new : Cursor) (result : Result X LineRefusal) → a ≡ b → Leaves b old new result → Leaves a old new result

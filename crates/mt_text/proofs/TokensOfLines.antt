@@ -1,5 +1,5 @@
 -- The tokens of a text that spells a line are those of the line.
-use Rattle.std.proofs.Common.{◌≡◌, ℕ, zero, suc, ◌+◌, ◌≤◌, ◌<◌, ◌==◌, ◌||◌, Bool, true, false, cond, codes, List, [], ◌∷◌, ◌++◌, length, take, drop, get_or, Option, Some, None, Ok, refl, sym, ap, subst, ◌∙◌, inl, inr, arith, append_assoc, eqb-true, nat_le, nat_lt, not}
+use Rattle.std.proofs.Common.{◌≡◌, ℕ, zero, suc, ◌+◌, ◌≤◌, ◌<◌, ◌==◌, ◌||◌, Bool, true, false, cond, codes, List, [], ◌∷◌, ◌++◌, length, take, drop, get_or, Option, Some, None, Ok, refl, sym, ap, subst, ◌∙◌, inl, inr, arith, append_assoc, eqb-true, nat_le}
 use Rattle.std.proofs.lemmas.Bool.{cases_Bool}
 use Rattle.std.proofs.lemmas.Bool.Decides.{nat_tests}
 use Rattle.std.proofs.lemmas.List.{append-nil, take-append-drop, drop_more}
@@ -8,7 +8,6 @@ use Rattle.std.proofs.lemmas.Slice.Eq.{bytes_eq-Decides}
 use Rattle.std.specs.Str.{bytes_eq}
 use Rattle.std.specs.Fmt.{decimal}
 use Rattle.mt_word.specs.declared.Width.{Width}
-use Rattle.mt_word.specs.Word.{width_bits}
 use Rattle.mt_fault.specs.declared.fault.Spot.{Spot}
 use Rattle.mt_fault.specs.declared.fault.Fault.{Fault}
 use Rattle.mt_port.specs.declared.board.Shape.{Shape}
@@ -26,8 +25,8 @@ use Rattle.mt_text.specs.declared.line.Event.{Event}
 use Rattle.mt_text.specs.declared.line.Event.TheVariants.{Nothing, Ram, Fls, TickRam, TickFls, App, Inject, Heal, Burn, Flip}
 use Rattle.mt_text.specs.declared.line.Line.{Line}
 use Rattle.mt_hex.specs.Hex.{hex_of}
-use Rattle.mt_text.specs.Tokens.{Token, begins_word, number_of, spot_of, point, parts, both}
-use Rattle.mt_text.specs.Values.{Slot, Num, Addr, FlashAddr, OtherAddr, Data, Bit, RamSpot, OtherSpot, bit_of, begins_mark, begins_urgent, mark_byte, spelled_in, value_rules, spot_in, spot_rules, mark_in, mark_rules, value_at, spot_at, mark_at}
+use Rattle.mt_text.specs.Tokens.{Token, number_of, spot_of, point, parts, both}
+use Rattle.mt_text.specs.Values.{Slot, Num, Addr, FlashAddr, OtherAddr, Data, Bit, bit_of, begins_mark, begins_urgent, mark_byte, spelled_in, value_rules, spot_in, spot_rules, mark_in, mark_rules, value_at, spot_at, mark_at}
 use Rattle.mt_text.specs.Forms.{Form, done, none, row, barred, value, spot, mark, step, mapped}
 use Rattle.mt_text.specs.Lines.{Part, Start, Ended, Requests, Handler, Open, Operation, Separator, event, app_op, fault, op_form, part_form, operation_form, request, line, follows, followed, running_module, whole, whole_at, Leads, SpellsTokens}
 use Rattle.mt_text.specs.RamServices.{ram_call, ram_handler_call}

@@ -1,5 +1,5 @@
 -- The table of the rules that a token may break, by what may stand at its place. Of the rules that it breaks, the least is told.
-use Rattle.std.specs.Prelude.{◌≡◌, ℕ, ◌≤◌, nat_le, not, codes, Bool, true, if◌then◌else◌, List, [], ◌∷◌, length, ◌⊎◌}
+use Rattle.std.specs.Prelude.{◌≡◌, ℕ, ◌≤◌, nat_le, not, codes, true, if◌then◌else◌, List, [], ◌∷◌, length, ◌⊎◌}
 use Rattle.std.specs.Str.{bytes_eq}
 use Rattle.mt_port.specs.declared.board.Shape.{Shape}
 use Rattle.mt_port.specs.declared.request.Module.{Module}
