@@ -24,7 +24,7 @@ use Rattle.mt_text.specs.declared.line.FlsCall.TheVariants as fls
 use Rattle.mt_text.specs.declared.line.Event.{Event}
 use Rattle.mt_text.specs.declared.line.Event.TheVariants.{Nothing, Ram, Fls, TickRam, TickFls, App, Inject, Heal, Burn, Flip}
 use Rattle.mt_text.specs.declared.line.Line.{Line}
-use Rattle.mt_text.specs.Forms.{mark_byte}
+use Rattle.mt_text.specs.Values.{mark_byte}
 use Rattle.mt_hex.specs.Digits.{digit_byte, hex_text, word_text}
 use Rattle.mt_text.specs.Canonical.{ram_words, fls_words, app_words, spot_text, bit_text, direction_text, wiring_text, fault_words, event_words, call_words, op_words, Piece, shown, text_of, spaced_words, words, further_ops, handler_pieces, request_pieces, requests_pieces, canonical}
 use Rattle.mt_replay.specs.Inner.Reading.{HasNoFeed}

@@ -1,56 +1,35 @@
 -- Words that lead from one form to another.
-use Rattle.std.proofs.Common.{◌≡◌, ℕ, true, List, [], ◌∷◌, ◌++◌, Ok, Err, refl, sym, ap, subst, ◌∙◌, inl, inr}
-use Rattle.std.proofs.lemmas.Bool.{cases_Bool}
-use Rattle.std.specs.Str.{bytes_eq}
+use Rattle.std.proofs.Common.{◌≡◌, ℕ, List, [], ◌∷◌, ◌++◌, Ok, sym, ap, subst, ◌∙◌}
 use Rattle.mt_port.specs.declared.board.Shape.{Shape}
 use Rattle.mt_fault.specs.declared.fault.Spot.{Spot}
-use Rattle.mt_text.specs.Tokens.{Token, begins_word}
-use Rattle.mt_text.specs.Forms.{Form, done, none, row, barred, value, spot, mark, Slot, SpotSlot, step, mapped, mapped_ok, value_at, word_at, spot_at, mark_at}
+use Rattle.mt_text.specs.Tokens.{Token}
+use Rattle.mt_text.specs.Values.{Slot, SpotSlot, value_at, spot_at}
+use Rattle.mt_text.specs.Forms.{Form, done, none, row, barred, value, spot, mark, step, mapped, mapped_ok}
 use Rattle.mt_text.specs.Lines.{Part, part_form, settled, Leads}
 use Rattle.mt_text.proofs.Pieces.{bytes_of}
+use Rattle.mt_text.proofs.FormLemmas.{step_mapped}
 
 -- inside a form
 abbrev pub Follows : {X : Type 0} → Shape → Form X → List (List ℕ) → Form X → Type 0
 Follows shape f [] g = f ≡ g
 Follows {X} shape f (w ∷ ws) g = (h : Form X) × (step shape f w ≡ Ok h) × Follows shape h ws g
 
-pub step_mapped : {X Y : Type 0} (shape : Shape) (f : X → Y) (F : Form X) (w : List ℕ) (G : Form X) → step shape F w ≡ Ok G → step shape (mapped f F) w ≡ Ok (mapped f G)
-step_mapped shape f (done x) w G h = absurd cc
-step_mapped shape f none w G h = absurd cc
-step_mapped {X} {Y} shape f (row u g more) w G h =
-    elim (cases_Bool (bytes_eq w u)) [
-      | inl e ↦ let q = rw e at h in let same : g ≡ G = cc in rw e (ap (λ (x : Form X). Ok (mapped f x)) same)
-      | inr e ↦ let q = rw e at h in rw e (step_mapped shape f more w G q)
-    ]
-step_mapped shape f (barred u k b more) w G h =
-    elim (cases_Bool (bytes_eq w u)) [
-      | inl e ↦ absurd (let q = rw e at h in cc)
-      | inr e ↦ let q = rw e at h in rw e (step_mapped shape f more w G q)
-    ]
-step_mapped {X} {Y} shape f (value s g) w G h =
-    (elim (value_at shape s w) as (λ r. mapped_ok g r ≡ Ok G → mapped_ok (λ n. mapped f (g n)) r ≡ Ok (mapped f G)) [ Ok n ↦ λ q. let same : g n ≡ G = cc in ap (λ (x : Form X). Ok (mapped f x)) same | Err k ↦ λ q. absurd cc ]) h
-step_mapped {X} {Y} shape f (spot s g) w G h =
-    (elim (spot_at shape s w) as (λ r. mapped_ok g r ≡ Ok G → mapped_ok (λ n. mapped f (g n)) r ≡ Ok (mapped f G)) [ Ok n ↦ λ q. let same : g n ≡ G = cc in ap (λ (x : Form X). Ok (mapped f x)) same | Err k ↦ λ q. absurd cc ]) h
-step_mapped {X} {Y} shape f (mark l c g) w G h =
-    (elim (mark_at l c w) as (λ r. mapped_ok g r ≡ Ok G → mapped_ok (λ n. mapped f (g n)) r ≡ Ok (mapped f G)) [ Ok n ↦ λ q. let same : g n ≡ G = cc in ap (λ (x : Form X). Ok (mapped f x)) same | Err k ↦ λ q. absurd cc ]) h
-
 pub follows_mapped : {X Y : Type 0} (shape : Shape) (f : X → Y) (F : Form X) (ws : List (List ℕ)) (G : Form X) → Follows shape F ws G → Follows shape (mapped f F) ws (mapped f G)
 follows_mapped {X} {Y} shape f F [] G h = ap (mapped f) h
-follows_mapped shape f F (w ∷ ws) G h = (mapped f h.0, step_mapped shape f F w h.0 h.1, follows_mapped shape f h.0 ws G h.2)
+follows_mapped shape f F (w ∷ ws) G h = (mapped f h.0, step_mapped shape f F w ∙ ap (mapped_ok (mapped f)) h.1, follows_mapped shape f h.0 ws G h.2)
 
 -- a value in its place
 pub record Reads (shape : Shape) (slot : Slot) (bytes : List ℕ) (n : ℕ) : Type 0 where
-  pub kind : begins_word bytes ≡ true
-  pub number : word_at shape slot bytes ≡ Ok n
+  pub place : value_at shape slot bytes ≡ Ok n
 
 pub record ReadsSpot (shape : Shape) (slot : SpotSlot) (bytes : List ℕ) (s : Spot) : Type 0 where
   pub place : spot_at shape slot bytes ≡ Ok s
 
 pub value_step : {X : Type 0} (shape : Shape) (slot : Slot) (form : ℕ → Form X) (bytes : List ℕ) (n : ℕ) → Reads shape slot bytes n → step shape (value slot form) bytes ≡ Ok (form n)
-value_step {X} shape slot form bytes n h = rw (h.kind, h.number) refl
+value_step {X} shape slot form bytes n h = ap (mapped_ok form) h.place
 
 pub spot_step : {X : Type 0} (shape : Shape) (slot : SpotSlot) (form : Spot → Form X) (bytes : List ℕ) (s : Spot) → ReadsSpot shape slot bytes s → step shape (spot slot form) bytes ≡ Ok (form s)
-spot_step {X} shape slot form bytes s h = rw h.place refl
+spot_step {X} shape slot form bytes s h = ap (mapped_ok form) h.place
 
 -- from part to part
 abbrev pub Path : Shape → Form Part → List (List ℕ) → Form Part → Type 0

@@ -1,5 +1,7 @@
 pub mod TokenLemmas
+pub mod Judging
 pub mod FormLemmas
+pub mod ReadLemmas
 pub mod LineLemmas
 pub mod RunLemmas
 pub mod Readings

@@ -22,7 +22,8 @@ use Rattle.mt_window.specs.Calls.{module_of}
 use Rattle.mt_text.specs.declared.request.Mark.{Mark}
 use Rattle.mt_text.specs.declared.line.Event.{Event}
 use Rattle.mt_text.specs.Tokens.{begins_word}
-use Rattle.mt_text.specs.Forms.{Form, done, row, Num, step, mapped, mark_byte}
+use Rattle.mt_text.specs.Values.{Num, mark_byte, mark_at}
+use Rattle.mt_text.specs.Forms.{Form, done, row, step, mapped}
 use Rattle.mt_text.specs.RamServices.{ram_handler_call}
 use Rattle.mt_text.specs.FlsServices.{fls_handler_call}
 use Rattle.mt_text.specs.Lines.{app_op, op_form, Part, Requests, Handler, Open, Operation, Separator, part_form, request_form, operation_form, request, line, last_offset, whole}
@@ -226,6 +227,7 @@ record AreNext (shape : Shape) (m : Module) (before after : List Request) : Type
 
 mark_step : (shape : Shape) (m : Module) (ev : Event) (rs : List Request) (offset : ℕ) (urgent : Bool) → IsNumber offset → last_offset rs ≤ offset → length rs < 16
     → step shape (request_form m ev rs) (mark_byte urgent ∷ decimal offset) ≡ Ok (done (Handler m ev rs (record { offset = offset; urgent = urgent })))
+unfolding mark_at
 mark_step shape m ev rs n true lt le few =
     let a : nat_lt n (last_offset rs) ≡ false = grind (arith, nat_tests) in
     let b : nat_le 16 (length rs) ≡ false = grind (arith, nat_tests) in

@@ -18,14 +18,15 @@ use Rattle.mt_text.specs.declared.line.Line.{Line}
 use Rattle.mt_text.specs.declared.line.LineKind.{LineKind}
 use Rattle.mt_text.specs.declared.line.LineRefusal.{LineRefusal}
 use Rattle.std.proofs.lemmas.List.{append-nil}
-use Rattle.mt_text.specs.declared.line.LineKind.TheVariants.{Spelling, Address, FaultRefused, WordTooWide, OffsetsFall, TooManyRequests, TooManyOps, NotInHandler}
-use Rattle.mt_hex.specs.Hex.{hex_of}
-use Rattle.mt_text.specs.Tokens.{Token, begins_word, number_of, spot_of}
-use Rattle.mt_text.specs.Forms.{Form, done, none, row, barred, value, spot, mark, Slot, Num, Addr, FlashAddr, OtherAddr, Data, Bit, SpotSlot, RamSpot, OtherSpot, FlashSpot, step, mapped, mapped_ok, value_at, word_at, spot_at, spot_word_at, mark_at, begins_mark, begins_urgent, broken_if, spelled, bit_of}
+use Rattle.mt_text.specs.declared.line.LineKind.TheVariants.{Spelling, TooManyOps, NotInHandler}
+use Rattle.mt_text.specs.Tokens.{Token, begins_word}
+use Rattle.mt_text.specs.Values.{Addr, begins_mark, spelled_in, value_rules, spot_in, spot_rules, mark_in, mark_rules, value_at, spot_at, mark_at}
+use Rattle.mt_text.specs.Forms.{Form, done, none, row, barred, value, spot, mark, step, mapped, mapped_ok}
 use Rattle.mt_text.specs.RamServices.{ram_call, ram_handler_call}
 use Rattle.mt_text.specs.FlsServices.{fls_call, fls_handler_call}
 use Rattle.mt_text.specs.Lines.{app_op, fault, event, op_form, Part, Start, Ended, Requests, Handler, Open, Operation, Separator, part_form, follows, request, settled, whole_at, Leads, FirstBroken, SpellsTokens}
 use Rattle.mt_text.specs.Kinds.{Either, Allows, GoesOn, IsOfKinds, bytes_of}
+use Rattle.mt_text.proofs.Judging.{judged_ok, is_first, after_mapped, spelling_told}
 
 -- ---- the kinds of a form as a tree
 
@@ -124,53 +125,20 @@ allowed {X} s (mark l c g) bytes G u h = (rw h.0 (ap (λ (x : Tree). Some x) (sy
 
 -- ---- what the rules let through is of its kind
 
-after_mapped : {A B : Type 0} (f : A → B) (r : Result A LineKind) (y : B) → mapped_ok f r ≡ Ok y → (x : A) × (r ≡ Ok x) × (f x ≡ y)
-after_mapped f (Ok x) y h = (x, refl, cc)
-after_mapped f (Err k) y h = absurd cc
-
-of_kind : {A : Type 0} (b : Bool) (r : Result A LineKind) (x : A) → cond b r (Err Spelling) ≡ Ok x → b ≡ true
-of_kind true r x h = refl
-of_kind false r x h = absurd cc
-
 -- a token that breaks no rule
 taken : {X : Type 0} (shape : Shape) (F : Form X) (bytes : List ℕ) (G : Form X) → step shape F bytes ≡ Ok G → Allows F bytes G
+unfolding value_at spot_at mark_at
 taken shape (done x) bytes G h = absurd cc
 taken shape none bytes G h = absurd cc
 taken {X} shape (row w g more) bytes G h =
     (elim (bytes_eq bytes w) as (λ b. cond b (Ok g) (step shape more bytes) ≡ Ok G → Either b (g ≡ G) (Allows more bytes G)) [ true ↦ λ e. cc | false ↦ λ e. taken shape more bytes G e ]) h
 taken {X} shape (barred w k g more) bytes G h =
     (elim (bytes_eq bytes w) as (λ b. cond b (Err k) (step shape more bytes) ≡ Ok G → Either b (g ≡ G) (Allows more bytes G)) [ true ↦ λ e. absurd cc | false ↦ λ e. taken shape more bytes G e ]) h
-taken shape (value slot g) bytes G h = let m = after_mapped g (value_at shape slot bytes) G h in (of_kind (begins_word bytes) _ m.0 m.1, (m.0, m.2))
-taken shape (spot slot g) bytes G h = let m = after_mapped g (spot_at shape slot bytes) G h in (of_kind (begins_word bytes) _ m.0 m.1, (m.0, m.2))
-taken shape (mark l c g) bytes G h = let m = after_mapped g (mark_at l c bytes) G h in (of_kind (begins_mark bytes) _ m.0 m.1, (m.0, m.2))
+taken shape (value slot g) bytes G h = let m = after_mapped g (value_at shape slot bytes) G h in (is_first (begins_word bytes) (judged_ok (value_rules shape slot bytes) (spelled_in slot bytes) m.0 m.1).0.0, (m.0, m.2))
+taken shape (spot slot g) bytes G h = let m = after_mapped g (spot_at shape slot bytes) G h in (is_first (begins_word bytes) (judged_ok (spot_rules shape slot bytes) (spot_in bytes) m.0 m.1).0.0, (m.0, m.2))
+taken shape (mark l c g) bytes G h = let m = after_mapped g (mark_at l c bytes) G h in (is_first (begins_mark bytes) (judged_ok (mark_rules l c bytes) (mark_in bytes) m.0 m.1).0.0, (m.0, m.2))
 
 -- ---- rule 1 in a form
-
-later_if : {A : Type 0} (b : Bool) (k : LineKind) (r : Result A LineKind) → k ≢ Spelling → r ≢ Err Spelling → broken_if b k r ≢ Err Spelling
-later_if true k r h g = λ e. h (let q : k ≡ Spelling = cc in q)
-later_if false k r h g = g
-
-later_spelled : {A B : Type 0} (o : Option A) (f : A → Result B LineKind) → ((x : A) → f x ≢ Err Spelling) → spelled o f ≢ Err Spelling
-later_spelled None f h = λ e. cc
-later_spelled (Some x) f h = h x
-
-ok_later : {A : Type 0} (x : A) → Ok x ≢ Err Spelling
-ok_later x e = cc
-
-address_later : Address ≢ Spelling
-address_later e = cc
-
-fault_later : FaultRefused ≢ Spelling
-fault_later e = cc
-
-wide_later : WordTooWide ≢ Spelling
-wide_later e = cc
-
-offsets_later : OffsetsFall ≢ Spelling
-offsets_later e = cc
-
-requests_later : TooManyRequests ≢ Spelling
-requests_later e = cc
 
 handler_later : NotInHandler ≢ Spelling
 handler_later e = cc
@@ -178,25 +146,13 @@ handler_later e = cc
 ops_later : TooManyOps ≢ Spelling
 ops_later e = cc
 
-word_later : (shape : Shape) (slot : Slot) (bytes : List ℕ) → word_at shape slot bytes ≢ Err Spelling
-word_later shape Num bytes = later_spelled (number_of bytes) _ (λ n. ok_later n)
-word_later shape Addr bytes = later_spelled (number_of bytes) _ (λ n. later_if _ _ _ address_later (ok_later n))
-word_later shape FlashAddr bytes = later_spelled (number_of bytes) _ (λ n. later_if _ _ _ address_later (ok_later n))
-word_later shape (OtherAddr a) bytes = later_spelled (number_of bytes) _ (λ n. later_if _ _ _ address_later (later_if _ _ _ fault_later (ok_later n)))
-word_later shape Data bytes = later_spelled (hex_of bytes) _ (λ n. later_if _ _ _ wide_later (ok_later n))
-word_later shape Bit bytes = later_spelled (bit_of bytes) _ (λ n. ok_later n)
-
-spot_word_later : (shape : Shape) (slot : SpotSlot) (s : Spot) → spot_word_at shape slot s ≢ Err Spelling
-spot_word_later shape RamSpot s = later_if _ _ _ address_later (later_if _ _ _ fault_later (ok_later s))
-spot_word_later shape (OtherSpot a) s = later_if _ _ _ address_later (later_if _ _ _ fault_later (later_if _ _ _ fault_later (ok_later s)))
-spot_word_later shape FlashSpot s = later_if _ _ _ address_later (later_if _ _ _ fault_later (ok_later s))
-
 mapped_later : {A B : Type 0} (f : A → B) (r : Result A LineKind) → mapped_ok f r ≡ Err Spelling → r ≡ Err Spelling
 mapped_later f (Ok x) h = absurd cc
 mapped_later f (Err k) h = let e : k ≡ Spelling = cc in cc
 
 -- a token of no kind
 no_kind : {X : Type 0} (s : X → Stage) (shape : Shape) (F : Form X) (bytes : List ℕ) → Uniform s F → step shape F bytes ≡ Err Spelling → tree_step (kinds s F) bytes ≡ None
+unfolding value_at spot_at mark_at
 no_kind s shape (done x) bytes b h = refl
 no_kind s shape none bytes b h = refl
 no_kind s shape (row w form more) bytes b h =
@@ -204,14 +160,15 @@ no_kind s shape (row w form more) bytes b h =
 no_kind s shape (barred w k form more) bytes b h =
     elim (cases_Bool (bytes_eq bytes w)) [ inl e ↦ absurd (b.0 (let g = rw e at h in let q : k ≡ Spelling = cc in q)) | inr e ↦ let g = rw e at h in rw e (no_kind s shape more bytes b.2 g) ]
 no_kind s shape (value slot form) bytes b h =
-    elim (cases_Bool (begins_word bytes)) [ inl e ↦ absurd (word_later shape slot bytes (let g = mapped_later form (value_at shape slot bytes) h in rw e at g)) | inr e ↦ rw e refl ]
+    rw (spelling_told (begins_word bytes) (drop 1 (value_rules shape slot bytes)) (spelled_in slot bytes) refl (mapped_later form (value_at shape slot bytes) h)) refl
 no_kind s shape (spot slot form) bytes b h =
-    elim (cases_Bool (begins_word bytes)) [ inl e ↦ absurd (later_spelled (spot_of bytes) _ (λ p. spot_word_later shape slot (record { word = p.0; bit = p.1 })) (let g = mapped_later form (spot_at shape slot bytes) h in rw e at g)) | inr e ↦ rw e refl ]
+    rw (spelling_told (begins_word bytes) (drop 1 (spot_rules shape slot bytes)) (spot_in bytes) refl (mapped_later form (spot_at shape slot bytes) h)) refl
 no_kind s shape (mark l c form) bytes b h =
-    elim (cases_Bool (begins_mark bytes)) [ inl e ↦ absurd (later_spelled (number_of (drop 1 bytes)) _ (λ n. later_if _ _ _ offsets_later (later_if _ _ _ requests_later (ok_later {A = Mark} (record { offset = n; urgent = begins_urgent bytes })))) (let g = mapped_later form (mark_at l c bytes) h in rw e at g)) | inr e ↦ rw e refl ]
+    rw (spelling_told (begins_mark bytes) (drop 1 (mark_rules l c bytes)) (mark_in bytes) refl (mapped_later form (mark_at l c bytes) h)) refl
 
 -- a token of a kind, or rule 1
 kind_or_rule : {X : Type 0} (shape : Shape) (F : Form X) (bytes : List ℕ) → ((G : Form X) × Allows F bytes G) ⊎ (step shape F bytes ≡ Err Spelling)
+unfolding value_at spot_at mark_at
 kind_or_rule shape (done x) bytes = inr refl
 kind_or_rule shape none bytes = inr refl
 kind_or_rule {X} shape (row w form more) bytes =

@@ -16,7 +16,8 @@ use Rattle.mt_text.specs.declared.line.FlsCall.{FlsCall}
 use Rattle.mt_text.specs.declared.line.FlsCall.TheVariants as fls
 use Rattle.mt_text.specs.declared.line.Event.{Event}
 use Rattle.mt_text.specs.declared.line.Event.TheVariants.{Nothing, Ram, Fls, TickRam, TickFls, App, Inject, Heal, Burn, Flip}
-use Rattle.mt_text.specs.Forms.{done, Num, Addr, FlashAddr, OtherAddr, Data, RamSpot, OtherSpot, FlashSpot}
+use Rattle.mt_text.specs.Values.{Num, Addr, FlashAddr, OtherAddr, Data, RamSpot, OtherSpot, FlashSpot, value_at}
+use Rattle.mt_text.specs.Forms.{done}
 use Rattle.mt_text.specs.RamServices.{ram_call}
 use Rattle.mt_text.specs.FlsServices.{fls_call}
 use Rattle.mt_text.specs.Lines.{app_op, fault, event}
@@ -121,7 +122,7 @@ app_are_words shape (Flash a) w h = (refl, (in_flash shape a w h, tt))
 -- ---- faults
 
 pub fault_follows : (shape : Shape) (f : Fault) → IsWithinLimits shape → IsWellPlaced shape.width shape.ram f → Follows shape fault (fault_words shape.width f) (done f)
-unfolding fault
+unfolding fault value_at
 fault_follows shape (StuckAt v true) w h = (_, refl, (_, spot_step shape RamSpot _ (spot_text v) v (spot_reads shape v w h.inside.0), (_, refl, refl)))
 fault_follows shape (StuckAt v false) w h = (_, refl, (_, spot_step shape RamSpot _ (spot_text v) v (spot_reads shape v w h.inside.0), (_, refl, refl)))
 fault_follows shape (CannotRise v) w h = (_, refl, (_, spot_step shape RamSpot _ (spot_text v) v (spot_reads shape v w h.inside.0), refl))

@@ -1,5 +1,5 @@
 -- The tokens of a text that spells a line are those of the line.
-use Rattle.std.proofs.Common.{◌≡◌, ℕ, zero, suc, ◌+◌, ◌≤◌, ◌<◌, ◌==◌, ◌||◌, Bool, true, false, cond, codes, List, [], ◌∷◌, ◌++◌, length, take, drop, get_or, Option, Some, None, Ok, refl, sym, ap, subst, ◌∙◌, inl, inr, arith, append_assoc, eqb-true, nat_le, nat_lt, not}
+use Rattle.std.proofs.Common.{◌≡◌, ℕ, zero, suc, ◌+◌, ◌≤◌, ◌<◌, ◌==◌, ◌||◌, Bool, true, false, cond, codes, List, [], ◌∷◌, ◌++◌, length, take, drop, get_or, Option, Some, None, Ok, refl, sym, ap, subst, ◌∙◌, inl, inr, arith, append_assoc, eqb-true, nat_le}
 use Rattle.std.proofs.lemmas.Bool.{cases_Bool}
 use Rattle.std.proofs.lemmas.Bool.Decides.{nat_tests}
 use Rattle.std.proofs.lemmas.List.{append-nil, take-append-drop, drop_more}
@@ -8,7 +8,6 @@ use Rattle.std.proofs.lemmas.Slice.Eq.{bytes_eq-Decides}
 use Rattle.std.specs.Str.{bytes_eq}
 use Rattle.std.specs.Fmt.{decimal}
 use Rattle.mt_word.specs.declared.Width.{Width}
-use Rattle.mt_word.specs.Word.{width_bits}
 use Rattle.mt_fault.specs.declared.fault.Spot.{Spot}
 use Rattle.mt_fault.specs.declared.fault.Fault.{Fault}
 use Rattle.mt_port.specs.declared.board.Shape.{Shape}
@@ -20,54 +19,28 @@ use Rattle.mt_port.specs.declared.request.HandlerOp.{HandlerOp}
 use Rattle.mt_port.specs.declared.request.HandlerOp.TheVariants.{App as AppIn, Call}
 use Rattle.mt_port.specs.declared.request.Request.{Request}
 use Rattle.mt_text.specs.declared.request.Mark.{Mark}
-use Rattle.mt_text.specs.declared.line.LineKind.TheVariants.{Spelling, Address, WordTooWide, OffsetsFall, TooManyRequests, FaultRefused}
 use Rattle.mt_text.specs.declared.line.RamCall.{RamCall}
 use Rattle.mt_text.specs.declared.line.FlsCall.{FlsCall}
 use Rattle.mt_text.specs.declared.line.Event.{Event}
 use Rattle.mt_text.specs.declared.line.Event.TheVariants.{Nothing, Ram, Fls, TickRam, TickFls, App, Inject, Heal, Burn, Flip}
 use Rattle.mt_text.specs.declared.line.Line.{Line}
 use Rattle.mt_hex.specs.Hex.{hex_of}
-use Rattle.mt_text.specs.Tokens.{Token, begins_word, number_of, spot_of, point, parts, both}
-use Rattle.mt_text.specs.Forms.{Form, done, none, row, barred, value, spot, mark, Slot, Num, Addr, FlashAddr, OtherAddr, Data, Bit, SpotSlot, RamSpot, OtherSpot, FlashSpot, bit_of, begins_mark, begins_urgent, mark_byte, step, mapped, value_at, word_at, spot_at, spot_word_at, mark_at, broken_if}
+use Rattle.mt_text.specs.Tokens.{Token, number_of, spot_of, point, parts, both}
+use Rattle.mt_text.specs.Values.{Slot, Num, Addr, FlashAddr, OtherAddr, Data, Bit, bit_of, begins_mark, begins_urgent, mark_byte, spelled_in, value_rules, spot_in, spot_rules, mark_in, mark_rules, value_at, spot_at, mark_at}
+use Rattle.mt_text.specs.Forms.{Form, done, none, row, barred, value, spot, mark, step, mapped}
 use Rattle.mt_text.specs.Lines.{Part, Start, Ended, Requests, Handler, Open, Operation, Separator, event, app_op, fault, op_form, part_form, operation_form, request, line, follows, followed, running_module, whole, whole_at, Leads, SpellsTokens}
 use Rattle.mt_text.specs.RamServices.{ram_call, ram_handler_call}
 use Rattle.mt_text.specs.FlsServices.{fls_call, fls_handler_call}
 use Rattle.mt_text.specs.Canonical.{ram_words, fls_words, app_words_by, fault_words_by, event_words_by, call_words, spot_text, bit_text}
 use Rattle.mt_hex.specs.Digits.{word_text}
 use Rattle.mt_text.specs.Kinds.{bytes_of}
-use Rattle.mt_text.specs.TokenRules.{spelled_in}
 use Rattle.mt_text.specs.LineTokens.{IsWriting, AreOfEvent, AreOfOp, AreOfFurther, AreOfOpened, AreOfHandler, AreOfRequests, AreOfLine}
-use Rattle.mt_text.proofs.Accepts.{after_test, after_spelled, after_mapped, of_kind}
+use Rattle.mt_text.proofs.Judging.{judged_ok, is_first, after_option_map, after_mapped}
 use Rattle.mt_text.proofs.Leading.{Follows}
 use Rattle.mt_text.proofs.SpellingLaws.{one_spelling}
 use Rattle.mt_text.proofs.Values.{word_of_text}
 
 -- ---- what a token in its place is
-
-word_spelled : (shape : Shape) (slot : Slot) (bytes : List ℕ) (n : ℕ) → word_at shape slot bytes ≡ Ok n → spelled_in slot bytes ≡ Some n
-word_spelled shape Num bytes n h = let m = after_spelled (number_of bytes) _ n h in let same : m.0 ≡ n = cc (m.2) in m.1 ∙ ap (λ (x : ℕ). Some x) same
-word_spelled shape Addr bytes n h =
-    let m = after_spelled (number_of bytes) _ n h in
-    let t = after_test _ Address (Ok m.0) n m.2 in
-    let same : m.0 ≡ n = cc (t.1) in
-    m.1 ∙ ap (λ (x : ℕ). Some x) same
-word_spelled shape FlashAddr bytes n h =
-    let m = after_spelled (number_of bytes) _ n h in
-    let t = after_test _ Address (Ok m.0) n m.2 in
-    let same : m.0 ≡ n = cc (t.1) in
-    m.1 ∙ ap (λ (x : ℕ). Some x) same
-word_spelled shape (OtherAddr a) bytes n h =
-    let m = after_spelled (number_of bytes) _ n h in
-    let t = after_test _ Address (broken_if (m.0 == a) FaultRefused (Ok m.0)) n m.2 in
-    let u = after_test _ FaultRefused (Ok m.0) n t.1 in
-    let same : m.0 ≡ n = cc (u.1) in
-    m.1 ∙ ap (λ (x : ℕ). Some x) same
-word_spelled shape Data bytes n h =
-    let m = after_spelled (hex_of bytes) _ n h in
-    let t = after_test _ WordTooWide (Ok m.0) n m.2 in
-    let same : m.0 ≡ n = cc (t.1) in
-    m.1 ∙ ap (λ (x : ℕ). Some x) same
-word_spelled shape Bit bytes n h = let m = after_spelled (bit_of bytes) _ n h in let same : m.0 ≡ n = cc (m.2) in m.1 ∙ ap (λ (x : ℕ). Some x) same
 
 number_is : (bytes : List ℕ) (n : ℕ) → number_of bytes ≡ Some n → bytes ≡ decimal n
 number_is bytes n h = ((one_spelling bytes n).0 h).0
@@ -106,26 +79,10 @@ spot_is : (bytes : List ℕ) (s : Spot) → spot_of bytes ≡ Some (s.word, s.bi
 unfolding spot_of
 spot_is bytes s h = spot_by bytes (point bytes) (s.word, s.bit) refl h ∙ sym (append_assoc (decimal s.word) (codes ".") (decimal s.bit))
 
-spot_kept : (shape : Shape) (slot : SpotSlot) (s r : Spot) → spot_word_at shape slot s ≡ Ok r → s ≡ r
-spot_kept shape RamSpot s r h =
-    let t = after_test (not (nat_lt s.word shape.ram)) Address (broken_if (not (nat_lt s.bit (width_bits shape.width))) FaultRefused (Ok s)) r h in
-    let u = after_test (not (nat_lt s.bit (width_bits shape.width))) FaultRefused (Ok s) r t.1 in
-    cc (u.1)
-spot_kept shape (OtherSpot a) s r h =
-    let t = after_test (not (nat_lt s.word shape.ram)) Address (broken_if (not (nat_lt s.bit (width_bits shape.width))) FaultRefused (broken_if (s.word == a) FaultRefused (Ok s))) r h in
-    let u = after_test (not (nat_lt s.bit (width_bits shape.width))) FaultRefused (broken_if (s.word == a) FaultRefused (Ok s)) r t.1 in
-    let v = after_test (s.word == a) FaultRefused (Ok s) r u.1 in
-    cc (v.1)
-spot_kept shape FlashSpot s r h =
-    let t = after_test (not (nat_lt s.word shape.flash)) Address (broken_if (not (nat_lt s.bit (width_bits shape.width))) FaultRefused (Ok s)) r h in
-    let u = after_test (not (nat_lt s.bit (width_bits shape.width))) FaultRefused (Ok s) r t.1 in
-    cc (u.1)
-
-spot_spelled : (shape : Shape) (slot : SpotSlot) (bytes : List ℕ) (s : Spot) → spot_at shape slot bytes ≡ Ok s → bytes ≡ spot_text s
-spot_spelled shape slot bytes s h =
-    let m = after_spelled (spot_of bytes) _ s (of_kind (begins_word bytes) _ Spelling s h) in
-    let same : record { word = m.0.0; bit = m.0.1 } ≡ s = spot_kept shape slot (record { word = m.0.0; bit = m.0.1 }) s m.2 in
-    subst (λ (x : Spot). bytes ≡ spot_text x) same (spot_is bytes (record { word = m.0.0; bit = m.0.1 }) m.1)
+spot_spelled : (bytes : List ℕ) (s : Spot) → spot_in bytes ≡ Some s → bytes ≡ spot_text s
+spot_spelled bytes s h =
+    let m = after_option_map (λ (p : ℕ × ℕ). record { word = p.0; bit = p.1 }) (spot_of bytes) s h in
+    subst (λ (x : Spot). bytes ≡ spot_text x) m.2 (spot_is bytes (record { word = m.0.0; bit = m.0.1 }) m.1)
 
 abbrev mark_word : Mark → List ℕ
 mark_word k = mark_byte k.urgent ∷ decimal k.offset
@@ -141,18 +98,10 @@ mark_is : (bytes : List ℕ) (n : ℕ) → begins_mark bytes ≡ true → number
 mark_is [] n h e = absurd cc
 mark_is (b ∷ bs) n h e = ap (λ (x : ℕ). x ∷ bs) (mark_byte_is b h) ∙ ap (λ (x : List ℕ). mark_byte (b == 33) ∷ x) (number_is bs n e)
 
-mark_spelled : (last count : ℕ) (bytes : List ℕ) (k : Mark) → mark_at last count bytes ≡ Ok k → bytes ≡ mark_word k
-mark_spelled last count bytes k h =
-    elim (cases_Bool (begins_mark bytes)) [
-      | inl e ↦ (
-          let m = after_spelled (number_of (drop 1 bytes)) _ k (of_kind (begins_mark bytes) _ Spelling k h) in
-          let made : Mark = record { offset = m.0; urgent = begins_urgent bytes } in
-          let t = after_test _ OffsetsFall (broken_if (nat_le 16 count) TooManyRequests (Ok made)) k m.2 in
-          let u = after_test _ TooManyRequests (Ok made) k t.1 in
-          let same : made ≡ k = cc (u.1) in
-          subst (λ (x : Mark). bytes ≡ mark_word x) same (mark_is bytes m.0 e m.1))
-      | inr e ↦ absurd (let q = rw e at h in cc)
-    ]
+mark_spelled : (bytes : List ℕ) (k : Mark) → begins_mark bytes ≡ true → mark_in bytes ≡ Some k → bytes ≡ mark_word k
+mark_spelled bytes k b h =
+    let m = after_option_map (λ (n : ℕ). record { offset = n; urgent = begins_urgent bytes }) (number_of (drop 1 bytes)) k h in
+    subst (λ (x : Mark). bytes ≡ mark_word x) m.2 (mark_is bytes m.0 b m.1)
 
 -- ---- all ways through a form
 
@@ -177,6 +126,7 @@ value_traced {X} shape P Data g w n t e = t w n e
 value_traced {X} shape P Bit g w n t e = subst (λ (b : List ℕ). Traced shape (λ ws x. P (b ∷ ws) x) (g n)) (sym (bit_is w n e)) (t n)
 
 traced_step : {X : Type 0} (shape : Shape) (P : List (List ℕ) → X → Type 0) (F : Form X) (w : List ℕ) (G : Form X) → Traced shape P F → step shape F w ≡ Ok G → Traced shape (λ ws x. P (w ∷ ws) x) G
+unfolding value_at spot_at mark_at
 traced_step shape P (done x) w G t h = absurd cc
 traced_step shape P none w G t h = absurd cc
 traced_step {X} shape P (row u g more) w G t h =
@@ -195,15 +145,16 @@ traced_step shape P (barred u kind g more) w G t h =
     ]
 traced_step {X} shape P (value slot g) w G t h =
     let m = after_mapped g (value_at shape slot w) G h in
-    let word = word_spelled shape slot w m.0 (of_kind (begins_word w) _ Spelling m.0 m.1) in
+    let word = (judged_ok (value_rules shape slot w) (spelled_in slot w) m.0 m.1).1 in
     subst (λ (x : Form X). Traced shape (λ ws y. P (w ∷ ws) y) x) m.2 (value_traced shape P slot g w m.0 t word)
 traced_step {X} shape P (spot slot g) w G t h =
     let m = after_mapped g (spot_at shape slot w) G h in
-    let word = spot_spelled shape slot w m.0 m.1 in
+    let word = spot_spelled w m.0 (judged_ok (spot_rules shape slot w) (spot_in w) m.0 m.1).1 in
     subst (λ (x : Form X). Traced shape (λ ws y. P (w ∷ ws) y) x) m.2 (subst (λ (b : List ℕ). Traced shape (λ ws y. P (b ∷ ws) y) (g m.0)) (sym word) (t m.0))
 traced_step {X} shape P (mark last count g) w G t h =
     let m = after_mapped g (mark_at last count w) G h in
-    let word = mark_spelled last count w m.0 m.1 in
+    let j = judged_ok (mark_rules last count w) (mark_in w) m.0 m.1 in
+    let word = mark_spelled w m.0 (is_first (begins_mark w) j.0.0) j.1 in
     subst (λ (x : Form X). Traced shape (λ ws y. P (w ∷ ws) y) x) m.2 (subst (λ (b : List ℕ). Traced shape (λ ws y. P (b ∷ ws) y) (g m.0)) (sym word) (t m.0))
 
 through : {X : Type 0} (shape : Shape) (P : List (List ℕ) → X → Type 0) (F : Form X) (ws : List (List ℕ)) (x : X) → Traced shape P F → Follows shape F ws (done x) → P ws x

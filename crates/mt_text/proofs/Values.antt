@@ -18,7 +18,7 @@ use Rattle.mt_hex.specs.Hex.{is_digit, is_hex, hex_digit, hex, hex_of}
 use Rattle.mt_text.specs.Tokens.{is_word, begins_word, number_of, point, parts, both as both_numbers, spot_of}
 use Rattle.mt_hex.specs.Digits.{digit_byte, hex_text, word_text}
 use Rattle.mt_text.specs.Canonical.{spot_text, bit_text}
-use Rattle.mt_text.specs.Forms.{Num, Addr, FlashAddr, OtherAddr, Data, Bit, RamSpot, OtherSpot, FlashSpot, mark_byte}
+use Rattle.mt_text.specs.Values.{Num, Addr, FlashAddr, OtherAddr, Data, Bit, RamSpot, OtherSpot, FlashSpot, mark_byte, value_at, spot_at}
 use Rattle.mt_text.specs.Accepted.{IsNumber}
 use Rattle.mt_text.proofs.Numbers.{both, number_of_text, text_begins_word, text_digits}
 use Rattle.mt_text.proofs.Pieces.{is_text}
@@ -191,40 +191,45 @@ spot_of_spot s la lb = ap spot_of (spot_plain s) ∙ spot_of_text s.word s.bit l
 -- ---- in their places
 
 pub num_reads : (shape : Shape) (n : ℕ) → IsNumber n → Reads shape Num (decimal n) n
-num_reads shape n lt = record { kind = text_begins_word n (wide n lt); number = rw (number_of_text n lt) refl }
+unfolding value_at
+num_reads shape n lt = record { place = rw (text_begins_word n (wide n lt), number_of_text n lt) refl }
 
 pub addr_reads : (shape : Shape) (n : ℕ) → IsWithinLimits shape → n < shape.ram → Reads shape Addr (decimal n) n
+unfolding value_at
 addr_reads shape n w lt =
     let small : n < 2 ^ 32 = (let l = w.ram in omega arith) in
     let t : nat_lt n shape.ram ≡ true = grind (arith, nat_tests) in
-    record { kind = text_begins_word n (wide n small); number = rw (number_of_text n small, t) refl }
+    record { place = rw (text_begins_word n (wide n small), number_of_text n small, t) refl }
 
 pub flash_reads : (shape : Shape) (n : ℕ) → IsWithinLimits shape → n < shape.flash → Reads shape FlashAddr (decimal n) n
+unfolding value_at
 flash_reads shape n w lt =
     let small : n < 2 ^ 32 = (let l = w.flash in omega arith) in
     let t : nat_lt n shape.flash ≡ true = grind (arith, nat_tests) in
-    record { kind = text_begins_word n (wide n small); number = rw (number_of_text n small, t) refl }
+    record { place = rw (text_begins_word n (wide n small), number_of_text n small, t) refl }
 
 pub other_reads : (shape : Shape) (a n : ℕ) → IsWithinLimits shape → n < shape.ram → a ≢ n → Reads shape (OtherAddr a) (decimal n) n
+unfolding value_at
 other_reads shape a n w lt ne =
     let small : n < 2 ^ 32 = (let l = w.ram in omega arith) in
     let t : nat_lt n shape.ram ≡ true = grind (arith, nat_tests) in
     let u : (n == a) ≡ false = grind (arith, nat_tests) in
-    record { kind = text_begins_word n (wide n small); number = rw (number_of_text n small, t, u) refl }
+    record { place = rw (text_begins_word n (wide n small), number_of_text n small, t, u) refl }
 
 pub data_reads : (shape : Shape) (x : ℕ) → Fits shape.width x → Reads shape Data (word_text shape.width x) x
+unfolding value_at
 data_reads shape x h =
     let t : nat_lt x (2 ^ width_bits shape.width) ≡ true = grind (arith, nat_tests) in
-    record { kind = begins_of_text (word_text shape.width x) (word_is_text shape.width x); number = rw (word_of_text shape.width x h, t) refl }
+    record { place = rw (begins_of_text (word_text shape.width x) (word_is_text shape.width x), word_of_text shape.width x h, t) refl }
 
 pub bit_number : Bool → ℕ
 bit_number true = 1
 bit_number false = 0
 
 pub bit_reads : (shape : Shape) (value : Bool) → Reads shape Bit (bit_text value) (bit_number value)
-unfolding bit_number
-bit_reads shape true = record { kind = refl; number = refl }
-bit_reads shape false = record { kind = refl; number = refl }
+unfolding bit_number value_at
+bit_reads shape true = record { place = refl }
+bit_reads shape false = record { place = refl }
 
 pub spot_small : (width : Width) (size : ℕ) (s : Spot) → size ≤ 65536 → IsSpot width size s → (s.word < 2 ^ 32) × (s.bit < 2 ^ 32)
 spot_small W8 size s l h = let a = h.0 in let b = h.1.0 in (omega arith, omega arith)
@@ -233,6 +238,7 @@ spot_small W32 size s l h = let a = h.0 in let b = h.1.0 in (omega arith, omega 
 spot_small W64 size s l h = let a = h.0 in let b = h.1.0 in (omega arith, omega arith)
 
 pub spot_reads : (shape : Shape) (s : Spot) → IsWithinLimits shape → IsSpot shape.width shape.ram s → ReadsSpot shape RamSpot (spot_text s) s
+unfolding spot_at
 spot_reads shape s w h =
     let m = spot_small shape.width shape.ram s w.ram h in
     let a = h.0 in
@@ -242,6 +248,7 @@ spot_reads shape s w h =
     record { place = rw (begins_of_text (spot_text s) (spot_is_text s m.0 m.1), spot_of_spot s m.0 m.1, t, u) refl }
 
 pub other_spot_reads : (shape : Shape) (first : ℕ) (s : Spot) → IsWithinLimits shape → IsSpot shape.width shape.ram s → first ≢ s.word → ReadsSpot shape (OtherSpot first) (spot_text s) s
+unfolding spot_at
 other_spot_reads shape first s w h ne =
     let m = spot_small shape.width shape.ram s w.ram h in
     let a = h.0 in
@@ -252,6 +259,7 @@ other_spot_reads shape first s w h ne =
     record { place = rw (begins_of_text (spot_text s) (spot_is_text s m.0 m.1), spot_of_spot s m.0 m.1, t, u, v) refl }
 
 pub flash_spot_reads : (shape : Shape) (s : Spot) → IsWithinLimits shape → IsSpot shape.width shape.flash s → ReadsSpot shape FlashSpot (spot_text s) s
+unfolding spot_at
 flash_spot_reads shape s w h =
     let m = spot_small shape.width shape.flash s w.flash h in
     let a = h.0 in

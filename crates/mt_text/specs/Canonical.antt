@@ -23,7 +23,7 @@ use Rattle.mt_text.specs.declared.names.RamService.{RamService}
 use Rattle.mt_text.specs.declared.names.RamService.TheVariants as ram_service
 use Rattle.mt_text.specs.declared.names.FlsService.{FlsService}
 use Rattle.mt_text.specs.declared.names.FlsService.TheVariants as fls_service
-use Rattle.mt_text.specs.Forms.{mark_byte}
+use Rattle.mt_text.specs.Values.{mark_byte}
 use Rattle.mt_text.specs.RamServices.{ram_name}
 use Rattle.mt_text.specs.FlsServices.{fls_name}
 use Rattle.mt_hex.specs.Digits.{word_text}

@@ -1,6 +1,7 @@
 -- The services of FlsTst.
 use Rattle.std.specs.Prelude.{ℕ, codes, List, [], ◌∷◌}
-use Rattle.mt_text.specs.Forms.{Form, done, rows, value, Num, Entry, Opens, Breaks}
+use Rattle.mt_text.specs.Values.{Num}
+use Rattle.mt_text.specs.Forms.{Form, done, rows, value, Entry, Opens, Breaks}
 use Rattle.mt_text.specs.RamServices.{bare, numbered}
 use Rattle.mt_text.specs.declared.line.LineKind.TheVariants.{NotInHandler}
 use Rattle.mt_text.specs.declared.line.FlsCall.{FlsCall}

@@ -5,7 +5,8 @@ use Rattle.mt_fault.specs.declared.fault.Spot.{Spot}
 use Rattle.mt_text.specs.declared.request.Mark.{Mark}
 use Rattle.mt_text.specs.declared.line.Line.{Line}
 use Rattle.mt_text.specs.Tokens.{Token, begins_word}
-use Rattle.mt_text.specs.Forms.{Form, done, none, row, barred, value, spot, mark, begins_mark}
+use Rattle.mt_text.specs.Values.{begins_mark}
+use Rattle.mt_text.specs.Forms.{Form, done, none, row, barred, value, spot, mark}
 use Rattle.mt_text.specs.Lines.{Part, Start, settled, whole_at}
 
 -- the first where the test holds, else the second

@@ -1,5 +1,6 @@
 pub mod Tokens
 pub mod Cursors
+pub mod Values
 pub mod Forms
 pub mod RamServices
 pub mod FlsServices

@@ -8,7 +8,7 @@ use Rattle.mt_port.specs.declared.request.Request.{Request}
 use Rattle.mt_text.specs.declared.line.Event.{Event}
 use Rattle.mt_text.specs.declared.line.Line.{Line}
 use Rattle.mt_hex.specs.Hex.{hex_of}
-use Rattle.mt_text.specs.Forms.{mark_byte}
+use Rattle.mt_text.specs.Values.{mark_byte}
 use Rattle.mt_text.specs.Canonical.{event_words_by, op_words_by}
 
 -- a way of writing the words that fit

@@ -2,7 +2,8 @@
 use Rattle.std.specs.Prelude.{◌≡◌, ℕ, ◌+◌, ◌==◌, nat_le, ◌||◌, codes, Bool, true, false, if◌then◌else◌, List, [], ◌∷◌, ◌++◌, length, Option, Some, None, Result, Ok, Err, ◌⊎◌}
 use Rattle.std.specs.Str.{bytes_eq}
 use Rattle.mt_text.specs.Tokens.{Token, tokens}
-use Rattle.mt_text.specs.Forms.{Form, done, none, row, barred, value, spot, Addr, FlashAddr, OtherAddr, Data, Bit, mark, RamSpot, OtherSpot, FlashSpot, mapped, step, at_place, refused, ◌>>=◌}
+use Rattle.mt_text.specs.Values.{Addr, FlashAddr, OtherAddr, Data, Bit, RamSpot, OtherSpot, FlashSpot}
+use Rattle.mt_text.specs.Forms.{Form, done, none, row, barred, value, spot, mark, mapped, step, at_place, refused, ◌>>=◌}
 use Rattle.mt_text.specs.RamServices.{ram_call, ram_handler_call}
 use Rattle.mt_text.specs.FlsServices.{fls_call, fls_handler_call}
 use Rattle.mt_port.specs.declared.board.Shape.{Shape}

@@ -1,6 +1,7 @@
 -- The services of RamTst.
 use Rattle.std.specs.Prelude.{ℕ, codes, List, [], ◌∷◌}
-use Rattle.mt_text.specs.Forms.{Form, done, rows, value, Num, Entry, Opens, Breaks}
+use Rattle.mt_text.specs.Values.{Num}
+use Rattle.mt_text.specs.Forms.{Form, done, rows, value, Entry, Opens, Breaks}
 use Rattle.mt_text.specs.declared.line.LineKind.TheVariants.{NotInHandler}
 use Rattle.mt_text.specs.declared.line.RamCall.{RamCall}
 use Rattle.mt_text.specs.declared.line.RamCall.TheVariants.{Init, DeInit, Stop, Allow, Suspend, Resume, GetExecutionStatus, GetTestResult, GetTestResultPerBlock, GetAlgParams, GetTestAlgorithm, GetNumberOfTestedCells, SelectAlgParams, ChangeNumberOfTestedCells, RunFullTest, RunPartialTest, GetVersionInfo}

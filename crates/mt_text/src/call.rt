@@ -1,27 +1,20 @@
 //! Services on a line and in a handler.
 
-ghost use Rattle.std.specs.Prelude.{◌≡◌};
-ghost use Rattle.mt_text.specs.Reader.{branch, read_entry, Gives};
+ghost use Rattle.mt_text.specs.Reader.{Reads, ReadsEntry};
 ghost use Rattle.mt_text.specs.RamServices.{ram_call, ram_entry, ram_handler_call, ram_handler_entry};
 ghost use Rattle.mt_text.specs.FlsServices.{fls_call, fls_entry, fls_handler_call, fls_handler_entry};
-ghost use Rattle.mt_text.specs.Cursors.{left, end_of, token_view};
 
 use crate::cursor::Cursor;
 use crate::line::{FlsCall, LineKind, LineRefusal, RamCall};
 use crate::names::{FlsService, RamService, fls_service, ram_service};
-use crate::token::Token;
-use crate::value::{NumberSlot, number, refused};
+use crate::value::{NumberPlace, refused, value};
 use mt_port::{HandlerCall, Shape};
 
 /// Reads a service of RamTst.
-pub fn ram_call(
-    word: &Token<'_>,
-    shape: Shape,
-    cursor: &mut Cursor<'_>,
-) -> Result<RamCall, LineRefusal>
-    ensures value { Gives result (left cursor.new) (branch shape (end_of cursor.old) (ram_call) (token_view word.now) (left cursor.old)) }
-    ensures end { end_of cursor.new ≡ end_of cursor.old }
+pub fn ram_call(shape: Shape, cursor: &mut Cursor<'_>) -> Result<RamCall, LineRefusal>
+    ensures { Reads shape ram_call cursor.old cursor.new result }
 {
+    let word = cursor.next()?;
     match ram_service(word.bytes) {
         None => refused(LineKind::Spelling, word.place),
         Some(service) => ram_call_of(service, word.place, shape, cursor),
@@ -35,8 +28,7 @@ fn ram_call_of(
     shape: Shape,
     cursor: &mut Cursor<'_>,
 ) -> Result<RamCall, LineRefusal>
-    ensures value { Gives result (left cursor.new) (read_entry shape (end_of cursor.old) (ram_entry service) place (left cursor.old)) }
-    ensures end { end_of cursor.new ≡ end_of cursor.old }
+    ensures { ReadsEntry shape (ram_entry service) place cursor.old cursor.new result }
 {
     match service {
         RamService::Init => Ok(RamCall::Init),
@@ -47,27 +39,27 @@ fn ram_call_of(
         RamService::Resume => Ok(RamCall::Resume),
         RamService::GetExecutionStatus => Ok(RamCall::GetExecutionStatus),
         RamService::GetTestResult => Ok(RamCall::GetTestResult),
-        RamService::GetTestResultPerBlock => Ok(RamCall::GetTestResultPerBlock(number(
-            NumberSlot::Any,
+        RamService::GetTestResultPerBlock => Ok(RamCall::GetTestResultPerBlock(value(
+            NumberPlace::Any,
             shape,
             cursor,
         )?)),
         RamService::GetAlgParams => Ok(RamCall::GetAlgParams),
         RamService::GetTestAlgorithm => Ok(RamCall::GetTestAlgorithm),
         RamService::GetNumberOfTestedCells => Ok(RamCall::GetNumberOfTestedCells),
-        RamService::SelectAlgParams => Ok(RamCall::SelectAlgParams(number(
-            NumberSlot::Any,
+        RamService::SelectAlgParams => Ok(RamCall::SelectAlgParams(value(
+            NumberPlace::Any,
             shape,
             cursor,
         )?)),
-        RamService::ChangeNumberOfTestedCells => Ok(RamCall::ChangeNumberOfTestedCells(number(
-            NumberSlot::Any,
+        RamService::ChangeNumberOfTestedCells => Ok(RamCall::ChangeNumberOfTestedCells(value(
+            NumberPlace::Any,
             shape,
             cursor,
         )?)),
         RamService::RunFullTest => Ok(RamCall::RunFullTest),
-        RamService::RunPartialTest => Ok(RamCall::RunPartialTest(number(
-            NumberSlot::Any,
+        RamService::RunPartialTest => Ok(RamCall::RunPartialTest(value(
+            NumberPlace::Any,
             shape,
             cursor,
         )?)),
@@ -76,14 +68,10 @@ fn ram_call_of(
 }
 
 /// Reads a service of RamTst in a handler.
-pub fn ram_handler_call(
-    word: &Token<'_>,
-    shape: Shape,
-    cursor: &mut Cursor<'_>,
-) -> Result<HandlerCall, LineRefusal>
-    ensures value { Gives result (left cursor.new) (branch shape (end_of cursor.old) (ram_handler_call) (token_view word.now) (left cursor.old)) }
-    ensures end { end_of cursor.new ≡ end_of cursor.old }
+pub fn ram_handler_call(shape: Shape, cursor: &mut Cursor<'_>) -> Result<HandlerCall, LineRefusal>
+    ensures { Reads shape ram_handler_call cursor.old cursor.new result }
 {
+    let word = cursor.next()?;
     match ram_service(word.bytes) {
         None => refused(LineKind::Spelling, word.place),
         Some(service) => ram_handler_call_of(service, word.place, shape, cursor),
@@ -97,8 +85,7 @@ fn ram_handler_call_of(
     shape: Shape,
     cursor: &mut Cursor<'_>,
 ) -> Result<HandlerCall, LineRefusal>
-    ensures value { Gives result (left cursor.new) (read_entry shape (end_of cursor.old) (ram_handler_entry service) place (left cursor.old)) }
-    ensures end { end_of cursor.new ≡ end_of cursor.old }
+    ensures { ReadsEntry shape (ram_handler_entry service) place cursor.old cursor.new result }
 {
     match service {
         RamService::Stop => Ok(HandlerCall::RamStop),
@@ -107,8 +94,8 @@ fn ram_handler_call_of(
         RamService::Resume => Ok(HandlerCall::RamResume),
         RamService::GetExecutionStatus => Ok(HandlerCall::RamGetExecutionStatus),
         RamService::GetTestResult => Ok(HandlerCall::RamGetTestResult),
-        RamService::GetTestResultPerBlock => Ok(HandlerCall::RamGetTestResultPerBlock(number(
-            NumberSlot::Any,
+        RamService::GetTestResultPerBlock => Ok(HandlerCall::RamGetTestResultPerBlock(value(
+            NumberPlace::Any,
             shape,
             cursor,
         )?)),
@@ -126,14 +113,10 @@ fn ram_handler_call_of(
 }
 
 /// Reads a service of FlsTst.
-pub fn fls_call(
-    word: &Token<'_>,
-    shape: Shape,
-    cursor: &mut Cursor<'_>,
-) -> Result<FlsCall, LineRefusal>
-    ensures value { Gives result (left cursor.new) (branch shape (end_of cursor.old) (fls_call) (token_view word.now) (left cursor.old)) }
-    ensures end { end_of cursor.new ≡ end_of cursor.old }
+pub fn fls_call(shape: Shape, cursor: &mut Cursor<'_>) -> Result<FlsCall, LineRefusal>
+    ensures { Reads shape fls_call cursor.old cursor.new result }
 {
+    let word = cursor.next()?;
     match fls_service(word.bytes) {
         None => refused(LineKind::Spelling, word.place),
         Some(service) => fls_call_of(service, word.place, shape, cursor),
@@ -147,13 +130,12 @@ fn fls_call_of(
     shape: Shape,
     cursor: &mut Cursor<'_>,
 ) -> Result<FlsCall, LineRefusal>
-    ensures value { Gives result (left cursor.new) (read_entry shape (end_of cursor.old) (fls_entry service) place (left cursor.old)) }
-    ensures end { end_of cursor.new ≡ end_of cursor.old }
+    ensures { ReadsEntry shape (fls_entry service) place cursor.old cursor.new result }
 {
     match service {
         FlsService::Init => Ok(FlsCall::Init),
         FlsService::DeInit => Ok(FlsCall::DeInit),
-        FlsService::StartFgnd => Ok(FlsCall::StartFgnd(number(NumberSlot::Any, shape, cursor)?)),
+        FlsService::StartFgnd => Ok(FlsCall::StartFgnd(value(NumberPlace::Any, shape, cursor)?)),
         FlsService::Abort => Ok(FlsCall::Abort),
         FlsService::Suspend => Ok(FlsCall::Suspend),
         FlsService::Resume => Ok(FlsCall::Resume),
@@ -166,14 +148,10 @@ fn fls_call_of(
 }
 
 /// Reads a service of FlsTst in a handler.
-pub fn fls_handler_call(
-    word: &Token<'_>,
-    shape: Shape,
-    cursor: &mut Cursor<'_>,
-) -> Result<HandlerCall, LineRefusal>
-    ensures value { Gives result (left cursor.new) (branch shape (end_of cursor.old) (fls_handler_call) (token_view word.now) (left cursor.old)) }
-    ensures end { end_of cursor.new ≡ end_of cursor.old }
+pub fn fls_handler_call(shape: Shape, cursor: &mut Cursor<'_>) -> Result<HandlerCall, LineRefusal>
+    ensures { Reads shape fls_handler_call cursor.old cursor.new result }
 {
+    let word = cursor.next()?;
     match fls_service(word.bytes) {
         None => refused(LineKind::Spelling, word.place),
         Some(service) => fls_handler_call_of(service, word.place, shape, cursor),
@@ -187,8 +165,7 @@ fn fls_handler_call_of(
     shape: Shape,
     cursor: &mut Cursor<'_>,
 ) -> Result<HandlerCall, LineRefusal>
-    ensures value { Gives result (left cursor.new) (read_entry shape (end_of cursor.old) (fls_handler_entry service) place (left cursor.old)) }
-    ensures end { end_of cursor.new ≡ end_of cursor.old }
+    ensures { ReadsEntry shape (fls_handler_entry service) place cursor.old cursor.new result }
 {
     match service {
         FlsService::Abort => Ok(HandlerCall::FlsAbort),

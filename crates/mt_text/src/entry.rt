@@ -151,7 +151,8 @@ fn push_reply(out: &mut EntryText, width: Width, reply: Reply)
 
 fn push_served(out: &mut EntryText, number: u8, at: u32, wait: u32)
     requires { length out.old.items + 44 ≤ 64 }
-    ensures text { out.new.items ≡ out.old.items ++ codes "irq " ++ decimal number ++ codes " at " ++ decimal at ++ codes " wait " ++ decimal wait }
+    ensures text { out.new.items ≡ out.old.items
+        ++ codes "irq " ++ decimal number ++ codes " at " ++ decimal at ++ codes " wait " ++ decimal wait }
     ensures short { length out.new.items ≤ length out.old.items + 44 }
 {
     push_bytes(out, b"irq ");

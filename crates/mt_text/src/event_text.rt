@@ -241,7 +241,8 @@ fn push_pair(out: &mut LineText, agg: Spot, vic: Spot)
 /// Appends the name of a fault, and two addresses.
 fn push_addresses(out: &mut LineText, name: &[u8], addr: u32, other: u32)
     requires { length out.old.items + length name.now + 23 ≤ 6144 }
-    ensures text { out.new.items ≡ out.old.items ++ text_of (spaced_words (name.now ∷ decimal addr ∷ decimal other ∷ [])) }
+    ensures text { out.new.items ≡ out.old.items
+        ++ text_of (spaced_words (name.now ∷ decimal addr ∷ decimal other ∷ [])) }
     ensures short { length out.new.items ≤ length out.old.items + length name.now + 23 }
 {
     push_token(out, true, name);
@@ -251,7 +252,8 @@ fn push_addresses(out: &mut LineText, name: &[u8], addr: u32, other: u32)
 
 fn push_stuck_at(out: &mut LineText, vic: Spot, value: bool)
     requires { length out.old.items + 27 ≤ 6144 }
-    ensures text { out.new.items ≡ out.old.items ++ text_of (spaced_words (codes "sa" ∷ spot_text vic ∷ bit_text value ∷ [])) }
+    ensures text { out.new.items ≡ out.old.items
+        ++ text_of (spaced_words (codes "sa" ∷ spot_text vic ∷ bit_text value ∷ [])) }
     ensures short { length out.new.items ≤ length out.old.items + 27 }
 {
     push_single(out, b"sa", vic);
@@ -260,7 +262,8 @@ fn push_stuck_at(out: &mut LineText, vic: Spot, value: bool)
 
 fn push_invert(out: &mut LineText, agg: Spot, rise: bool, vic: Spot)
     requires { length out.old.items + 54 ≤ 6144 }
-    ensures text { out.new.items ≡ out.old.items ++ text_of (spaced_words (codes "cfin" ∷ direction_text rise ∷ spot_text agg ∷ spot_text vic ∷ [])) }
+    ensures text { out.new.items ≡ out.old.items
+        ++ text_of (spaced_words (codes "cfin" ∷ direction_text rise ∷ spot_text agg ∷ spot_text vic ∷ [])) }
     ensures short { length out.new.items ≤ length out.old.items + 54 }
 {
     push_token(out, true, b"cfin");
@@ -270,7 +273,9 @@ fn push_invert(out: &mut LineText, agg: Spot, rise: bool, vic: Spot)
 
 fn push_force(out: &mut LineText, agg: Spot, rise: bool, vic: Spot, value: bool)
     requires { length out.old.items + 56 ≤ 6144 }
-    ensures text { out.new.items ≡ out.old.items ++ text_of (spaced_words (codes "cfid" ∷ direction_text rise ∷ spot_text agg ∷ spot_text vic ∷ bit_text value ∷ [])) }
+    ensures text { out.new.items ≡ out.old.items
+        ++ text_of (spaced_words (codes "cfid" ∷ direction_text rise ∷ spot_text agg ∷ spot_text vic
+        ∷ bit_text value ∷ [])) }
     ensures short { length out.new.items ≤ length out.old.items + 56 }
 {
     push_token(out, true, b"cfid");
@@ -281,7 +286,9 @@ fn push_force(out: &mut LineText, agg: Spot, rise: bool, vic: Spot, value: bool)
 
 fn push_state(out: &mut LineText, agg: Spot, holds: bool, vic: Spot, value: bool)
     requires { length out.old.items + 53 ≤ 6144 }
-    ensures text { out.new.items ≡ out.old.items ++ text_of (spaced_words (codes "cfst" ∷ bit_text holds ∷ spot_text agg ∷ spot_text vic ∷ bit_text value ∷ [])) }
+    ensures text { out.new.items ≡ out.old.items
+        ++ text_of (spaced_words (codes "cfst" ∷ bit_text holds ∷ spot_text agg ∷ spot_text vic ∷ bit_text value
+        ∷ [])) }
     ensures short { length out.new.items ≤ length out.old.items + 53 }
 {
     push_token(out, true, b"cfst");
@@ -292,7 +299,8 @@ fn push_state(out: &mut LineText, agg: Spot, holds: bool, vic: Spot, value: bool
 
 fn push_no_cell(out: &mut LineText, width: Width, addr: u32, seen: u64)
     requires { length out.old.items + 36 ≤ 6144 }
-    ensures text { out.new.items ≡ out.old.items ++ text_of (spaced_words (codes "af-none" ∷ decimal addr ∷ word_text width seen ∷ [])) }
+    ensures text { out.new.items ≡ out.old.items
+        ++ text_of (spaced_words (codes "af-none" ∷ decimal addr ∷ word_text width seen ∷ [])) }
     ensures short { length out.new.items ≤ length out.old.items + 36 }
 {
     push_token(out, true, b"af-none");
@@ -302,7 +310,8 @@ fn push_no_cell(out: &mut LineText, width: Width, addr: u32, seen: u64)
 
 fn push_also(out: &mut LineText, addr: u32, other: u32, wired_and: bool)
     requires { length out.old.items + 34 ≤ 6144 }
-    ensures text { out.new.items ≡ out.old.items ++ text_of (spaced_words (codes "af-also" ∷ decimal addr ∷ decimal other ∷ wiring_text wired_and ∷ [])) }
+    ensures text { out.new.items ≡ out.old.items
+        ++ text_of (spaced_words (codes "af-also" ∷ decimal addr ∷ decimal other ∷ wiring_text wired_and ∷ [])) }
     ensures short { length out.new.items ≤ length out.old.items + 34 }
 {
     push_addresses(out, b"af-also", addr, other);
@@ -377,7 +386,8 @@ pub fn push_event(out: &mut LineText, width: Width, event: Event)
 
 fn push_result_of_block(out: &mut LineText, spaced: bool, block: u32)
     requires { length out.old.items + 41 ≤ 6144 }
-    ensures text { out.new.items ≡ out.old.items ++ text_of (words spaced (codes "ram" ∷ ram_name GetTestResultPerBlock ∷ decimal block ∷ [])) }
+    ensures text { out.new.items ≡ out.old.items
+        ++ text_of (words spaced (codes "ram" ∷ ram_name GetTestResultPerBlock ∷ decimal block ∷ [])) }
     ensures short { length out.new.items ≤ length out.old.items + 41 }
 {
     push_ram_service(out, spaced, RamService::GetTestResultPerBlock);

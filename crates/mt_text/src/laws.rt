@@ -24,14 +24,17 @@ ghost use Rattle.mt_text.specs.declared.line.LineRefusal.{LineRefusal};
 
 /// Reading, as a function of the text, gives the line that the text spells, and else its refusal.
 pub fn reading_is_spelling()
-    ensures ok { (shape : Shape) (text : List ℕ) (line : Line) → (line_of shape text ≡ Ok line) ↔ Spells shape text line }
-    ensures err { (shape : Shape) (text : List ℕ) (e : LineRefusal) → (line_of shape text ≡ Err e) ↔ Refuses shape text e }
+    ensures ok { (shape : Shape) (text : List ℕ) (line : Line)
+        → (line_of shape text ≡ Ok line) ↔ Spells shape text line }
+    ensures err { (shape : Shape) (text : List ℕ) (e : LineRefusal)
+        → (line_of shape text ≡ Err e) ↔ Refuses shape text e }
 {}
 
 /// A text spells one line, and one that spells a line is refused for nothing.
 pub fn one_line()
     ensures one { (shape : Shape) (text : List ℕ) (a b : Line) → Spells shape text a → Spells shape text b → a ≡ b }
-    ensures never_refused { (shape : Shape) (text : List ℕ) (a : Line) (e : LineRefusal) → Spells shape text a → Refuses shape text e → ⊥ }
+    ensures never_refused { (shape : Shape) (text : List ℕ) (a : Line) (e : LineRefusal) → Spells shape text a
+        → Refuses shape text e → ⊥ }
 {}
 
 /// A text spells accepted lines alone.
@@ -56,14 +59,16 @@ pub fn spelled_lines_have_their_tokens()
 pub fn spelling_is_a_token_of_no_line()
     ensures refused { (shape : Shape) (text : List ℕ) (e : LineRefusal) (b : FirstBroken shape (tokens 1 text) e)
         → (e.kind ≡ Spelling) ↔ ((rest : List (List ℕ)) → ¬ IsOfKinds (bytes_of b.before ++ b.token.bytes ∷ rest)) }
-    ensures spelled { (shape : Shape) (tokens : List Token) (line : Line) → SpellsTokens shape tokens line → IsOfKinds (bytes_of tokens) }
+    ensures spelled { (shape : Shape) (tokens : List Token) (line : Line) → SpellsTokens shape tokens line
+        → IsOfKinds (bytes_of tokens) }
 {}
 
 /// A refused token is told the least rule that it breaks of those of its place, and a token that is taken breaks none.
 pub fn the_least_rule_is_told()
     ensures refused { (shape : Shape) (text : List ℕ) (e : LineRefusal) (b : FirstBroken shape (tokens 1 text) e)
         → IsLeastBroken (token_rules shape b.form b.token.bytes) e.kind }
-    ensures taken { (shape : Shape) (form after : Form Part) (bytes : List ℕ) → step shape (settled form) bytes ≡ Ok after
+    ensures taken { (shape : Shape) (form after : Form Part) (bytes : List ℕ)
+        → step shape (settled form) bytes ≡ Ok after
         → BreaksNone (token_rules shape form bytes) }
 {}
 
@@ -88,5 +93,6 @@ pub fn trace_lines_stand_in_order()
     ensures one { (width : Width) (number : ℕ) (entry : Entry)
         → entries_text width number (entry ∷ []) ≡ entry_text width number entry }
     ensures more { (width : Width) (number : ℕ) (first second : List Entry)
-        → entries_text width number (first ++ second) ≡ entries_text width number first ++ entries_text width number second }
+        → entries_text width number (first ++ second)
+        ≡ entries_text width number first ++ entries_text width number second }
 {}

@@ -75,8 +75,10 @@ pub fn push_line(out: &mut LineText, line: &Line, width: Width)
 /// Writes the canonical text of a line, with a line feed. Of the shape the width alone matters: words are written in
 /// width divided by 4 digits.
 pub fn write_line<K: Sink>(line: &Line, shape: Shape, sink: &mut K) -> Result<(), Failed>
-    ensures ok { OnOk result (Appends (K.held sink.old) (K.held sink.new) (canonical shape.width line.now ++ codes "\n")) }
-    ensures err { OnErr result (AppendsFront (K.held sink.old) (K.held sink.new) (canonical shape.width line.now ++ codes "\n")) }
+    ensures ok { OnOk result (Appends (K.held sink.old) (K.held sink.new)
+        (canonical shape.width line.now ++ codes "\n")) }
+    ensures err { OnErr result (AppendsFront (K.held sink.old) (K.held sink.new)
+        (canonical shape.width line.now ++ codes "\n")) }
     ensures cause { HasCause (K.faults sink.old) (K.faults sink.new) result }
 {
     let mut text = ArrayVec::new();

@@ -1,10 +1,9 @@
 //! The reader of a line.
 
-ghost use Rattle.std.specs.Prelude.{◌≡◌, ◌≤◌, ◌+◌, ◌<◌, ◌∷◌, [], length, Ok, Err, OnOk, IfOk, IfErr};
-ghost use Rattle.mt_text.specs.Tokens.{tokens};
+ghost use Rattle.std.specs.Prelude.{◌≡◌, ◌≤◌, ◌∷◌, [], length, Ok, Err, OnOk, IfOk, IfErr};
 ghost use Rattle.mt_text.specs.Forms.{done};
 ghost use Rattle.mt_text.specs.Lines.{run, Start, Requests, Ended, follows, line, begins_comment, running_module, line_of, Spells, Refuses};
-ghost use Rattle.mt_text.specs.Reader.{Continues};
+ghost use Rattle.mt_text.specs.Reader.{Continues, Ends};
 ghost use Rattle.mt_text.specs.declared.line.Event.{Event};
 ghost use Rattle.mt_text.specs.Accepted.{IsAccepted};
 ghost use Rattle.mt_text.specs.Cursors.{left, end_of, token_view};
@@ -26,7 +25,7 @@ fn requests(
     cursor: &mut Cursor<'_>,
 ) -> Result<(), LineRefusal>
     requires { out.old.items ≡ [] }
-    ensures { (ev : Event) → Continues result (λ _. Ok (line ev out.new.items)) (run shape (end_of cursor.old) (done (Requests callee ev [])) (left cursor.old)) }
+    ensures { (ev : Event) → Ends shape cursor.old (Requests callee ev []) (λ _. line ev out.new.items) result }
 {
     let mut last = 0;
     while !cursor.is_at_end() {
@@ -37,7 +36,7 @@ fn requests(
 
 /// Nothing may follow an event that doesn't run.
 fn nothing(cursor: &mut Cursor<'_>, shape: Shape) -> Result<(), LineRefusal>
-    ensures { (ev : Event) → Continues result (λ _. Ok (line ev [])) (run shape (end_of cursor.old) (done (Ended ev)) (left cursor.old)) }
+    ensures { (ev : Event) → Ends shape cursor.old (Ended ev) (λ _. line ev []) result }
 {
     match cursor.next() {
         Ok(token) => refused(LineKind::Spelling, token.place),
@@ -66,7 +65,7 @@ fn behind_event(
     cursor: &mut Cursor<'_>,
 ) -> Result<(), LineRefusal>
     requires { out.old.items ≡ [] }
-    ensures { Continues result (λ _. Ok (line event.now out.new.items)) (run shape (end_of cursor.old) (done (follows event.now)) (left cursor.old)) }
+    ensures { Ends shape cursor.old (follows event.now) (λ _. line event.now out.new.items) result }
 {
     match running_module(event) {
         Some(callee) => requests(out, callee, shape, cursor),
@@ -82,7 +81,8 @@ fn from_word(
     cursor: &mut Cursor<'_>,
 ) -> Result<Event, LineRefusal>
     requires { out.old.items ≡ [] }
-    ensures { Continues result (λ ev. Ok (line ev out.new.items)) (run shape (end_of cursor.old) (done Start) (token_view word.now ∷ left cursor.old)) }
+    ensures { Continues result (λ ev. Ok (line ev out.new.items))
+        (run shape (end_of cursor.old) (done Start) (token_view word.now ∷ left cursor.old)) }
 {
     let event = event(word, shape, cursor)?;
     behind_event(out, &event, shape, cursor)?;

@@ -1,20 +1,20 @@
 //! Requests.
 
-ghost use Rattle.std.specs.Prelude.{◌≡◌, false, ◌<◌, ◌≤◌, ◌++◌, ◌∷◌, [], ℕ, List, length, IfOk};
-ghost use Rattle.mt_text.specs.Tokens.{begins_word};
-ghost use Rattle.mt_text.specs.Forms.{at_place, mark_at, done, begins_mark, begins_urgent};
-ghost use Rattle.mt_text.specs.Lines.{run, Requests, Handler, Operation, Open, request, last_offset, line};
-ghost use Rattle.mt_text.specs.Reader.{Continues, behind_op};
+ghost use Rattle.std.specs.Prelude.{◌≡◌, false, refl, ◌<◌, ◌≤◌, ◌++◌, ◌∷◌, [], List, length, IfOk};
+ghost use Rattle.mt_text.specs.Values.{begins_mark, begins_urgent};
+ghost use Rattle.mt_text.specs.Forms.{mark, done};
+ghost use Rattle.mt_text.specs.Lines.{Requests, Handler, Operation, Open, request, last_offset};
+ghost use Rattle.mt_text.specs.Reader.{Goes, behind_op};
 ghost use Rattle.mt_text.specs.declared.request.Mark.{Mark};
 ghost use Rattle.mt_text.specs.declared.line.Event.{Event};
 ghost use Rattle.mt_port.specs.declared.request.Request.{Request};
-ghost use Rattle.mt_text.specs.Cursors.{left, end_of, token_view, no_token};
+ghost use Rattle.mt_text.specs.Cursors.{left, no_token};
 
 use crate::cursor::Cursor;
 use crate::handler::handler_op;
 use crate::line::{LineKind, LineRefusal};
-use crate::token::{Token, number_of};
-use crate::value::{is, refused};
+use crate::token::number_of;
+use crate::value::{Place, is, refused, value};
 use arrayvec::ArrayVec;
 use mt_port::{HandlerOp, Module, Request, Shape};
 
@@ -25,46 +25,56 @@ pub struct Mark {
     pub urgent: bool,
 }
 
-fn begins_mark(token: &Token<'_>) -> bool
-    ensures { result ≡ begins_mark token.now.bytes.now }
+fn begins_mark(bytes: &[u8]) -> bool
+    ensures { result ≡ begins_mark bytes.now }
 {
-    match token.bytes {
+    match bytes {
         [] => false,
         [byte, ..] => *byte == b'@' || *byte == b'!',
     }
 }
 
-fn begins_urgent(token: &Token<'_>) -> bool
-    ensures { result ≡ begins_urgent token.now.bytes.now }
+fn begins_urgent(bytes: &[u8]) -> bool
+    ensures { result ≡ begins_urgent bytes.now }
 {
-    match token.bytes {
+    match bytes {
         [] => false,
         [byte, ..] => *byte == b'!',
     }
 }
 
-/// The mark that a token is, behind requests of which there are so many.
-fn read_mark(token: &Token<'_>, last: u32, count: usize) -> Result<Mark, LineRefusal>
-    ensures value { result ≡ at_place token.now.place (mark_at last count token.now.bytes.now) }
-    ensures few { IfOk result (λ _. count < 16) }
-{
-    if !begins_mark(token) {
-        return refused(LineKind::Spelling, token.place);
-    }
-    match number_of(&token.bytes[1..]) {
-        None => refused(LineKind::Number, token.place),
-        Some(offset) => {
-            if offset < last {
-                return refused(LineKind::OffsetsFall, token.place);
-            }
-            if count >= 16 {
-                return refused(LineKind::TooManyRequests, token.place);
-            }
-            Ok(Mark {
-                offset,
-                urgent: begins_urgent(token),
-            })
+/// The place of a request's mark, behind so many requests of which the last has this offset.
+#[derive(Clone, Copy)]
+struct MarkPlace {
+    last: u32,
+    count: usize,
+}
+
+impl Place for MarkPlace {
+    type Value = Mark;
+
+    ghost form = { λ place. mark place.last place.count (λ k. done k) };
+
+    ghost goes_on = { λ place. refl };
+
+    #[tactic(auto, unfolding(crate::specs::Values::mark_at))]
+    fn judge(self, _shape: Shape, bytes: &[u8]) -> Result<Mark, LineKind> {
+        if !begins_mark(bytes) {
+            return Err(LineKind::Spelling);
         }
+        let Some(offset) = number_of(&bytes[1..]) else {
+            return Err(LineKind::Number);
+        };
+        if offset < self.last {
+            return Err(LineKind::OffsetsFall);
+        }
+        if self.count >= 16 {
+            return Err(LineKind::TooManyRequests);
+        }
+        Ok(Mark {
+            offset,
+            urgent: begins_urgent(bytes),
+        })
     }
 }
 
@@ -76,20 +86,19 @@ fn operation(
     cursor: &mut Cursor<'_>,
 ) -> Result<bool, LineRefusal>
     requires { length ops.old.items ≤ 8 }
-    ensures value { (ev : Event) (rs : List Request) (k : Mark) → Continues result (λ ended. run shape (end_of cursor.old) (done (behind_op ended callee ev rs k ops.new.items)) (left cursor.new)) (run shape (end_of cursor.old) (done (Operation callee ev rs k ops.old.items)) (left cursor.old)) }
-    ensures end { end_of cursor.new ≡ end_of cursor.old }
+    ensures goes { (ev : Event) (rs : List Request) (k : Mark) → Goes shape cursor.old cursor.new
+        (Operation callee ev rs k ops.old.items) (λ ended. behind_op ended callee ev rs k ops.new.items) result }
     ensures shorter { IfOk result (λ _. length (left cursor.new) < length (left cursor.old)) }
     ensures few { length ops.new.items ≤ 8 }
 {
-    let word = cursor.next()?;
     let full = ops.len() >= 8;
-    let op = handler_op(&word, full, callee, shape, cursor)?;
+    let op = handler_op(full, callee, shape, cursor)?;
     ops.push(op);
     let mark = cursor.next()?;
-    if is(&mark, b";") {
+    if is(mark.bytes, b";") {
         return Ok(false);
     }
-    if is(&mark, b"]") {
+    if is(mark.bytes, b"]") {
         return Ok(true);
     }
     refused(LineKind::Spelling, mark.place)
@@ -101,8 +110,8 @@ fn handler(
     shape: Shape,
     cursor: &mut Cursor<'_>,
 ) -> Result<ArrayVec<HandlerOp, 8>, LineRefusal>
-    ensures value { (ev : Event) (rs : List Request) (k : Mark) → Continues result (λ ops. run shape (end_of cursor.old) (done (Requests callee ev (rs ++ request k ops.items ∷ []))) (left cursor.new)) (run shape (end_of cursor.old) (done (Open callee ev rs k)) (left cursor.old)) }
-    ensures end { end_of cursor.new ≡ end_of cursor.old }
+    ensures goes { (ev : Event) (rs : List Request) (k : Mark) → Goes shape cursor.old cursor.new
+        (Open callee ev rs k) (λ ops. Requests callee ev (rs ++ request k ops.items ∷ [])) result }
     ensures shorter { IfOk result (λ _. length (left cursor.new) ≤ length (left cursor.old)) }
 {
     let mut ops = ArrayVec::new();
@@ -122,8 +131,8 @@ fn handler_if_any(
     shape: Shape,
     cursor: &mut Cursor<'_>,
 ) -> Result<ArrayVec<HandlerOp, 8>, LineRefusal>
-    ensures value { (ev : Event) (rs : List Request) (k : Mark) → Continues result (λ ops. run shape (end_of cursor.old) (done (Requests callee ev (rs ++ request k ops.items ∷ []))) (left cursor.new)) (run shape (end_of cursor.old) (done (Handler callee ev rs k)) (left cursor.old)) }
-    ensures end { end_of cursor.new ≡ end_of cursor.old }
+    ensures goes { (ev : Event) (rs : List Request) (k : Mark) → Goes shape cursor.old cursor.new
+        (Handler callee ev rs k) (λ ops. Requests callee ev (rs ++ request k ops.items ∷ [])) result }
     ensures shorter { IfOk result (λ _. length (left cursor.new) ≤ length (left cursor.old)) }
 {
     if cursor.takes(b"[") {
@@ -144,14 +153,17 @@ pub fn one_request(
     requires some { no_token (left cursor.old) ≡ false }
     requires last { last ≡ last_offset requests.old.items }
     requires few { length requests.old.items ≤ 16 }
-    ensures value { (ev : Event) → Continues result (λ _. run shape (end_of cursor.old) (done (Requests callee ev requests.new.items)) (left cursor.new)) (run shape (end_of cursor.old) (done (Requests callee ev requests.old.items)) (left cursor.old)) }
+    ensures goes { (ev : Event) → Goes shape cursor.old cursor.new
+        (Requests callee ev requests.old.items) (λ _. Requests callee ev requests.new.items) result }
     ensures last { IfOk result (λ n. n ≡ last_offset requests.new.items) }
     ensures few { length requests.new.items ≤ 16 }
-    ensures end { end_of cursor.new ≡ end_of cursor.old }
     ensures shorter { IfOk result (λ _. length (left cursor.new) < length (left cursor.old)) }
 {
-    let word = cursor.next()?;
-    let mark = read_mark(&word, last, requests.len())?;
+    let place = MarkPlace {
+        last,
+        count: requests.len(),
+    };
+    let mark = value(place, shape, cursor)?;
     let ops = handler_if_any(callee, shape, cursor)?;
     requests.push(Request {
         offset: mark.offset,

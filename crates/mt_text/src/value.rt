@@ -1,19 +1,17 @@
 //! Values at their places.
 
-ghost use Rattle.std.specs.Prelude.{◌≡◌, ◌==◌, ◌<◌, ◌^◌, ℕ, List, Some, Ok, Err, nat_lt, not};
+ghost use Rattle.std.specs.Prelude.{◌≡◌, ◌==◌, ◌<◌, ◌^◌, false, refl, Err, nat_lt};
 ghost use Rattle.std.specs.Str.{bytes_eq};
 ghost use Rattle.mt_word.specs.Word.{width_bits};
-ghost use Rattle.mt_text.specs.Tokens.{begins_word, number_of};
-ghost use Rattle.mt_text.specs.Forms.{value, spot, done, Data, Bit, broken_if, word_at, spot_word_at};
-ghost use Rattle.mt_text.specs.TokenRules.{size_of, is_first_word};
-ghost use Rattle.mt_text.specs.declared.line.LineKind.TheVariants.{Address, FaultRefused};
-ghost use Rattle.mt_text.specs.Reader.{read, Gives, slot_of, spot_slot_of};
+ghost use Rattle.mt_text.specs.Tokens.{begins_word};
+ghost use Rattle.mt_text.specs.Values.{Data, Bit, is_outside, is_first_address, size_of, is_first_word};
+ghost use Rattle.mt_text.specs.Forms.{Form, value, spot, done, step, mapped_ok};
+ghost use Rattle.mt_text.specs.Reader.{Reads, is_done, slot_of, spot_slot_of};
 ghost use Rattle.mt_text.specs.Lines.{direction};
-ghost use Rattle.mt_text.specs.Cursors.{left, end_of, token_view};
 
 use crate::cursor::Cursor;
 use crate::line::{LineKind, LineRefusal};
-use crate::token::{Token, is_word, number_of, spot_of};
+use crate::token::{is_word, number_of, spot_of};
 use mt_fault::Spot;
 use mt_hex::hex_of;
 use mt_port::Shape;
@@ -25,20 +23,108 @@ pub fn refused<T>(kind: LineKind, place: u32) -> Result<T, LineRefusal>
     Err(LineRefusal { kind, place })
 }
 
-pub fn begins_word(token: &Token<'_>) -> bool
-    ensures { result ≡ begins_word token.now.bytes.now }
+pub fn is(bytes: &[u8], word: &[u8]) -> bool
+    ensures { result ≡ bytes_eq bytes.now word.now }
 {
-    match token.bytes {
+    bytes == word
+}
+
+/// A place of a value on a line.
+pub trait Place: Copy {
+    type Value;
+
+    /// What may stand there.
+    ghost form: { Self → Form Self.Value };
+
+    /// The value that a token spells there, or the first rule of the place that it breaks.
+    fn judge(self, shape: Shape, bytes: &[u8]) -> Result<Self::Value, LineKind>
+        ensures { step shape (form self) bytes.now ≡ mapped_ok (λ x. done x) result };
+
+    /// One token stands there.
+    ghost goes_on: { (place : Self) → is_done (form place) ≡ false };
+}
+
+/// Reads a value in its place.
+pub fn value<P: Place>(
+    place: P,
+    shape: Shape,
+    cursor: &mut Cursor<'_>,
+) -> Result<P::Value, LineRefusal>
+    ensures { Reads shape (P.form place) cursor.old cursor.new result }
+{
+    let token = cursor.next()?;
+    match place.judge(shape, token.bytes) {
+        Ok(value) => Ok(value),
+        Err(kind) => refused(kind, token.place),
+    }
+}
+
+fn begins_word(bytes: &[u8]) -> bool
+    ensures { result ≡ begins_word bytes.now }
+{
+    match bytes {
         [] => false,
         [byte, ..] => is_word(*byte),
     }
 }
 
-pub fn is(token: &Token<'_>, word: &[u8]) -> bool
-    ensures { result ≡ bytes_eq token.now.bytes.now word.now }
-{
-    token.bytes == word
+/// The place of a number, by what it stands for.
+#[derive(Clone, Copy)]
+pub enum NumberPlace {
+    Any,
+    Ram,
+    Flash,
+    /// A word of the RAM other than this one.
+    OtherRam(u32),
 }
+
+fn is_outside(place: NumberPlace, shape: Shape, n: u32) -> bool
+    ensures { result ≡ is_outside shape (slot_of place) n }
+{
+    match place {
+        NumberPlace::Any => false,
+        NumberPlace::Ram | NumberPlace::OtherRam(_) => n >= shape.ram,
+        NumberPlace::Flash => n >= shape.flash,
+    }
+}
+
+fn is_first_address(place: NumberPlace, n: u32) -> bool
+    ensures { result ≡ is_first_address (slot_of place) n }
+{
+    match place {
+        NumberPlace::OtherRam(first) => n == first,
+        NumberPlace::Any | NumberPlace::Ram | NumberPlace::Flash => false,
+    }
+}
+
+impl Place for NumberPlace {
+    type Value = u32;
+
+    ghost form = { λ place. value (slot_of place) (λ n. done n) };
+
+    ghost goes_on = { λ place. refl };
+
+    #[tactic(auto, unfolding(crate::specs::Values::value_at))]
+    fn judge(self, shape: Shape, bytes: &[u8]) -> Result<u32, LineKind> {
+        if !begins_word(bytes) {
+            return Err(LineKind::Spelling);
+        }
+        let Some(n) = number_of(bytes) else {
+            return Err(LineKind::Number);
+        };
+        if is_outside(self, shape, n) {
+            return Err(LineKind::Address);
+        }
+        if is_first_address(self, n) {
+            return Err(LineKind::FaultRefused);
+        }
+        Ok(n)
+    }
+}
+
+/// The place of a word.
+#[derive(Clone, Copy)]
+pub struct DataPlace;
 
 /// Whether the word is below 2 to the width.
 fn fits(width: Width, word: u64) -> bool
@@ -47,133 +133,76 @@ fn fits(width: Width, word: u64) -> bool
     mt_word::fits(width, word)
 }
 
-/// What a number stands for in its place.
+impl Place for DataPlace {
+    type Value = u64;
+
+    ghost form = { λ place. value Data (λ n. done n) };
+
+    ghost goes_on = { λ place. refl };
+
+    #[tactic(auto, unfolding(crate::specs::Values::value_at))]
+    fn judge(self, shape: Shape, bytes: &[u8]) -> Result<u64, LineKind> {
+        if !begins_word(bytes) {
+            return Err(LineKind::Spelling);
+        }
+        let Some(word) = hex_of(bytes) else {
+            return Err(LineKind::Number);
+        };
+        if !fits(shape.width, word) {
+            return Err(LineKind::WordTooWide);
+        }
+        Ok(word)
+    }
+}
+
+/// The place of a bit.
 #[derive(Clone, Copy)]
-pub enum NumberSlot {
-    Any,
-    Ram,
-    Flash,
-    /// A word of the RAM other than this one.
-    OtherRam(u32),
-}
+pub struct BitPlace;
 
-fn below(n: u32, size: u32) -> Result<u32, LineKind>
-    ensures { result ≡ broken_if (not (nat_lt n size)) Address (Ok n) }
-{
-    if n < size {
-        Ok(n)
-    } else {
-        Err(LineKind::Address)
-    }
-}
+impl Place for BitPlace {
+    type Value = bool;
 
-fn other_than(n: u32, first: u32) -> Result<u32, LineKind>
-    ensures { result ≡ broken_if (n == first) FaultRefused (Ok n) }
-{
-    if n == first {
-        Err(LineKind::FaultRefused)
-    } else {
-        Ok(n)
-    }
-}
+    ghost form = { λ place. value Bit (λ n. done (n == 1)) };
 
-/// A number in its place, or the least rule that it breaks.
-fn number_in(slot: NumberSlot, shape: Shape, n: u32) -> Result<u32, LineKind>
-    ensures { (bytes : List ℕ) → number_of bytes ≡ Some n → word_at shape (slot_of slot) bytes ≡ result }
-{
-    match slot {
-        NumberSlot::Any => Ok(n),
-        NumberSlot::Ram => below(n, shape.ram),
-        NumberSlot::Flash => below(n, shape.flash),
-        NumberSlot::OtherRam(first) => match below(n, shape.ram) {
-            Ok(n) => other_than(n, first),
-            Err(kind) => Err(kind),
-        },
-    }
-}
+    ghost goes_on = { λ place. refl };
 
-fn number_at(slot: NumberSlot, shape: Shape, bytes: &[u8]) -> Result<u32, LineKind>
-    ensures { word_at shape (slot_of slot) bytes.now ≡ result }
-{
-    match number_of(bytes) {
-        None => Err(LineKind::Number),
-        Some(n) => number_in(slot, shape, n),
-    }
-}
-
-/// Reads a number.
-#[tactic(auto, unfolding(crate::specs::Reader::read))]
-pub fn number(slot: NumberSlot, shape: Shape, cursor: &mut Cursor<'_>) -> Result<u32, LineRefusal>
-    ensures value { Gives result (left cursor.new) (read shape (end_of cursor.old) (value (slot_of slot) (λ n. done n)) (left cursor.old)) }
-    ensures end { end_of cursor.new ≡ end_of cursor.old }
-{
-    let token = cursor.next()?;
-    if !begins_word(&token) {
-        return refused(LineKind::Spelling, token.place);
-    }
-    match number_at(slot, shape, token.bytes) {
-        Ok(n) => Ok(n),
-        Err(kind) => refused(kind, token.place),
-    }
-}
-
-/// Reads a word.
-#[tactic(auto, unfolding(crate::specs::Reader::read))]
-pub fn data(shape: Shape, cursor: &mut Cursor<'_>) -> Result<u64, LineRefusal>
-    ensures value { Gives result (left cursor.new) (read shape (end_of cursor.old) (value Data (λ n. done n)) (left cursor.old)) }
-    ensures end { end_of cursor.new ≡ end_of cursor.old }
-{
-    let token = cursor.next()?;
-    if !begins_word(&token) {
-        return refused(LineKind::Spelling, token.place);
-    }
-    match hex_of(token.bytes) {
-        None => refused(LineKind::Number, token.place),
-        Some(n) => {
-            if !fits(shape.width, n) {
-                return refused(LineKind::WordTooWide, token.place);
-            }
-            Ok(n)
+    #[tactic(auto, unfolding(crate::specs::Values::value_at))]
+    fn judge(self, _shape: Shape, bytes: &[u8]) -> Result<bool, LineKind> {
+        if is(bytes, b"0") {
+            Ok(false)
+        } else if is(bytes, b"1") {
+            Ok(true)
+        } else if begins_word(bytes) {
+            Err(LineKind::Number)
+        } else {
+            Err(LineKind::Spelling)
         }
     }
 }
 
-/// Reads a bit.
-#[tactic(auto, unfolding(crate::specs::Reader::read))]
-pub fn bit(shape: Shape, cursor: &mut Cursor<'_>) -> Result<bool, LineRefusal>
-    ensures value { Gives result (left cursor.new) (read shape (end_of cursor.old) (value Bit (λ n. done (n == 1))) (left cursor.old)) }
-    ensures end { end_of cursor.new ≡ end_of cursor.old }
-{
-    let token = cursor.next()?;
-    if !begins_word(&token) {
-        return refused(LineKind::Spelling, token.place);
-    }
-    if is(&token, b"0") {
-        Ok(false)
-    } else if is(&token, b"1") {
-        Ok(true)
-    } else {
-        refused(LineKind::Number, token.place)
+/// The place of a direction: whether it rises.
+#[derive(Clone, Copy)]
+pub struct DirectionPlace;
+
+impl Place for DirectionPlace {
+    type Value = bool;
+
+    ghost form = { λ place. direction (λ up. done up) };
+
+    ghost goes_on = { λ place. refl };
+
+    fn judge(self, _shape: Shape, bytes: &[u8]) -> Result<bool, LineKind> {
+        if is(bytes, b"up") {
+            Ok(true)
+        } else if is(bytes, b"down") {
+            Ok(false)
+        } else {
+            Err(LineKind::Spelling)
+        }
     }
 }
 
-/// Reads a direction: whether it rises.
-#[tactic(auto, unfolding(crate::specs::Reader::read))]
-pub fn direction(shape: Shape, cursor: &mut Cursor<'_>) -> Result<bool, LineRefusal>
-    ensures value { Gives result (left cursor.new) (read shape (end_of cursor.old) (direction (λ up. done up)) (left cursor.old)) }
-    ensures end { end_of cursor.new ≡ end_of cursor.old }
-{
-    let token = cursor.next()?;
-    if is(&token, b"up") {
-        Ok(true)
-    } else if is(&token, b"down") {
-        Ok(false)
-    } else {
-        refused(LineKind::Spelling, token.place)
-    }
-}
-
-/// Which memory a spot is in.
+/// The place of a spot, by its memory.
 #[derive(Clone, Copy)]
 pub enum SpotPlace {
     Ram,
@@ -200,37 +229,30 @@ fn is_first_word(place: SpotPlace, word: u32) -> bool
     }
 }
 
-/// A spot in its place, or the least rule that it breaks.
-fn spot_in(place: SpotPlace, shape: Shape, word: u32, bit: u32) -> Result<Spot, LineKind>
-    ensures { spot_word_at shape (spot_slot_of place) (record { word = word; bit = bit }) ≡ result }
-{
-    if word >= size(place, shape) {
-        return Err(LineKind::Address);
-    }
-    if bit >= bits(shape.width) || is_first_word(place, word) {
-        return Err(LineKind::FaultRefused);
-    }
-    Ok(Spot {
-        word,
-        bit: bit as u8,
-    })
-}
+impl Place for SpotPlace {
+    type Value = Spot;
 
-/// Reads a spot.
-#[tactic(auto, unfolding(crate::specs::Reader::read))]
-pub fn spot(place: SpotPlace, shape: Shape, cursor: &mut Cursor<'_>) -> Result<Spot, LineRefusal>
-    ensures value { Gives result (left cursor.new) (read shape (end_of cursor.old) (spot (spot_slot_of place) (λ s. done s)) (left cursor.old)) }
-    ensures end { end_of cursor.new ≡ end_of cursor.old }
-{
-    let token = cursor.next()?;
-    if !begins_word(&token) {
-        return refused(LineKind::Spelling, token.place);
-    }
-    match spot_of(token.bytes) {
-        None => refused(LineKind::Number, token.place),
-        Some((word, bit)) => match spot_in(place, shape, word, bit) {
-            Ok(spot) => Ok(spot),
-            Err(kind) => refused(kind, token.place),
-        },
+    ghost form = { λ place. spot (spot_slot_of place) (λ s. done s) };
+
+    ghost goes_on = { λ place. refl };
+
+    #[tactic(auto, unfolding(crate::specs::Values::spot_at))]
+    fn judge(self, shape: Shape, bytes: &[u8]) -> Result<Spot, LineKind> {
+        if !begins_word(bytes) {
+            return Err(LineKind::Spelling);
+        }
+        let Some((word, bit)) = spot_of(bytes) else {
+            return Err(LineKind::Number);
+        };
+        if word >= size(self, shape) {
+            return Err(LineKind::Address);
+        }
+        if bit >= bits(shape.width) || is_first_word(self, word) {
+            return Err(LineKind::FaultRefused);
+        }
+        Ok(Spot {
+            word,
+            bit: bit as u8,
+        })
     }
 }

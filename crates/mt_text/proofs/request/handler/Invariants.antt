@@ -1,9 +1,8 @@
 use Rattle.std.proofs.Common.{◌≡◌, ◌≤◌, ◌+◌, true, false, Bool, List, ℕ, length}
 use Rattle.mt_text.specs.declared.request.Mark.{Mark}
-use Rattle.mt_text.specs.Cursors.{left, end_of}
-use Rattle.mt_text.specs.Forms.{done}
-use Rattle.mt_text.specs.Lines.{run, Open}
-use Rattle.mt_text.specs.Reader.{behind_op}
+use Rattle.mt_text.specs.Cursors.{left}
+use Rattle.mt_text.specs.Lines.{Open}
+use Rattle.mt_text.specs.Reader.{behind_op, rest_from}
 use Rattle.mt_text.specs.declared.line.Event.{Event}
 use Rattle.mt_port.specs.declared.request.Request.{Request}
 use Rattle.mt_text.proofs.request.handler.Given as goal
@@ -14,9 +13,8 @@ to_do false n = n + 1
 
 abbrev pub invariant-loop-ended : goal.invariant-loop-ended
 invariant-loop-ended l = record {
-  same : (ev : Event) (rs : List Request) (n : Mark) → run l.shape (end_of l.cursor) (done (behind_op l.ended l.callee ev rs n l.ops.items)) (left l.cursor) ≡ run l.shape (end_of l.initial.cursor) (done (Open l.callee ev rs n)) (left l.initial.cursor);
-  end : end_of l.cursor ≡ end_of l.initial.cursor;
-  shorter : length (left l.cursor) ≤ length (left l.initial.cursor);
+  same : (ev : Event) (rs : List Request) (n : Mark) → rest_from l.shape l.fn.cursor (Open l.callee ev rs n) ≡ rest_from l.shape l.cursor (behind_op l.ended l.callee ev rs n l.ops.items);
+  shorter : length (left l.cursor) ≤ length (left l.fn.cursor);
   few : length l.ops.items ≤ 8;
 }
 
