@@ -1,14 +1,13 @@
 -- The sets of an accepted configuration.
-use Rattle.std.proofs.Common.{ℕ, ◌+◌, ◌*◌, ◌<◌, ◌≤◌, ◌≡◌, List, length, sym, subst, arith}
+use Rattle.std.proofs.Common.{ℕ, ◌*◌, ◌<◌, ◌≤◌, ◌≡◌, List, length, sym, subst, arith}
 use Rattle.std.proofs.lemmas.List.{length-map, get_or-map}
 use Rattle.mt_port.specs.declared.board.Shape.{Shape}
-use Rattle.mt_port.specs.Board.{IsWithinLimits}
 use Rattle.mt_seq.specs.Sequence.{IsSoundJob, IsSoundSlice}
 use Rattle.mt_blocks.specs.declared.span.Span.{Span}
 use Rattle.mt_blocks.specs.declared.pass.Position.{Position}
 use Rattle.mt_blocks.specs.declared.config.Block.{Block}
 use Rattle.mt_blocks.specs.declared.config.ParamSet.{ParamSet}
-use Rattle.mt_blocks.specs.Slices.{AreSpans, IsValid, piece_at, span_at, no_span}
+use Rattle.mt_blocks.specs.Slices.{IsValid, piece_at, span_at, no_span}
 use Rattle.mt_blocks.specs.Accepted.{IsAcceptedBlock, IsAcceptedSet, block_at, no_block, no_set, spans_of}
 use Rattle.mt_seq.specs.declared.sequence.Job.{Job}
 use Rattle.mt_seq.specs.Sequence.{sequence_hold}

@@ -7,7 +7,7 @@ use Rattle.mt_port.specs.declared.board.Shape.{Shape}
 use Rattle.mt_port.specs.Board.{IsWithinLimits}
 use Rattle.mt_window.specs.declared.reply.TestResult.TheVariants.{NotOk}
 use Rattle.mt_blocks.specs.declared.config.ParamSet.{ParamSet}
-use Rattle.mt_blocks.specs.Slices.{Piece, pass, from_place, piece_at, start, IsValid}
+use Rattle.mt_blocks.specs.Slices.{Piece, pass, from_place, start, IsValid}
 use Rattle.mt_blocks.specs.Groups.{ticks, group_len}
 use Rattle.mt_blocks.specs.Laws.{BlocksBegin, PassesBegin}
 use Rattle.mt_blocks.specs.Accepted.{spans_of, IsAcceptedSet, set_at}

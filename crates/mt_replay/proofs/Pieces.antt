@@ -1,20 +1,15 @@
 -- Where the slices of a pass stand.
-use Rattle.std.proofs.Common.{ℕ, zero, suc, ◌+◌, ◌-◌, ◌*◌, ◌/◌, ◌<◌, ◌≤◌, ◌≡◌, Bool, cond, List, [], ◌∷◌, drop, length, All, refl, sym, ap, ◌∙◌, subst, arith}
-use Rattle.std.specs.Prelude.{min}
+use Rattle.std.proofs.Common.{ℕ, zero, suc, ◌+◌, ◌-◌, ◌*◌, ◌/◌, ◌<◌, ◌≤◌, ◌≡◌, List, [], ◌∷◌, drop, length, All, refl, sym, ap, ◌∙◌, subst, arith}
 use Rattle.std.proofs.Math.Nat.{mul-div_cancel, le-div_iff_mul-le, add-mul}
-use Rattle.std.proofs.lemmas.Bool.{le-leb}
 use Rattle.std.proofs.lemmas.List.{length-drop, length-map, get_or-drop}
 use Rattle.std.proofs.lemmas.List.Elements.{All-nil, All-append, All-drop, All-from_get_or}
 use Rattle.std.proofs.lemmas.List.FromFn.{length-map-range_with_len, get_or-map-range_with_len}
-use Rattle.mt_port.specs.declared.board.Shape.{Shape}
-use Rattle.mt_seq.specs.Sequence.{IsSoundSlice}
 use Rattle.mt_blocks.specs.declared.span.Span.{Span}
 use Rattle.mt_blocks.specs.declared.pass.Position.{Position}
 use Rattle.mt_blocks.specs.declared.config.Block.{Block}
 use Rattle.mt_blocks.specs.declared.config.ParamSet.{ParamSet}
 use Rattle.mt_blocks.specs.Slices.{Piece, piece, piece_at, pieces, pieces_from, pass, from_place, span_at, span_len, no_span, slice_count, start, IsValid}
-use Rattle.mt_blocks.specs.Groups.{group_len, groups_up_to, ticks}
-use Rattle.mt_blocks.specs.Accepted.{spans_of, IsAcceptedSet}
+use Rattle.mt_blocks.specs.Accepted.{spans_of}
 
 -- A slice of some blocks: the one at its place.
 pub record IsOf (K : ℕ) (spans : List Span) (x : Piece) : Type 0 where

@@ -1,5 +1,5 @@
 -- Lines of a generated script that are replayed, and their sums.
-use Rattle.std.proofs.Common.{ℕ, ◌+◌, ◌≡◌, ◌⊎◌, inl, inr, List, [], ◌∷◌, ◌++◌, length, All, Option, Some, None, fold, refl, sym, ap, subst, ◌∙◌, append_assoc, append-nil, length-append}
+use Rattle.std.proofs.Common.{ℕ, ◌+◌, ◌≡◌, ◌⊎◌, inl, inr, List, [], ◌∷◌, ◌++◌, length, Option, Some, None, fold, refl, sym, ap, subst, ◌∙◌, append_assoc, append-nil, length-append}
 use Rattle.std.proofs.lemmas.List.Sums.{fold-append}
 use Rattle.mt_port.specs.Board.{Board, Logs, powered_up}
 use Rattle.mt_port.specs.declared.board.Shape.{Shape}
@@ -7,14 +7,13 @@ use Rattle.mt_port.specs.declared.board.Touch.{Touch}
 use Rattle.mt_port.specs.Inner.Streams.{Logs-nil, Logs-append}
 use Rattle.mt_fault.specs.declared.fault.Fault.{Fault}
 use Rattle.mt_text.specs.declared.line.Line.{Line}
-use Rattle.mt_text.specs.Accepted.{IsAccepted}
 use Rattle.mt_window.specs.declared.log.Entry.{Entry}
 use Rattle.mt_window.specs.declared.log.Entry.TheVariants.{Own}
 use Rattle.mt_window.specs.declared.reply.Reply.{Reply}
 use Rattle.mt_ram.specs.Results.{overall}
 use Rattle.mt_conf.specs.declared.config.Config.{Config}
 use Rattle.mt_gen.specs.Config.{job_config}
-use Rattle.mt_gen.specs.Script.{job_shape, script}
+use Rattle.mt_gen.specs.Script.{script}
 use Rattle.mt_gen.specs.declared.summary.Summary.{Summary}
 use Rattle.mt_gen.specs.Summary.{summary_of, with_entry}
 use Rattle.mt_gen.specs.Inner.Forms.{LinesAreOfForms}

@@ -3,7 +3,7 @@ use Rattle.std.proofs.Common.{ℕ, ◌<◌, ◌≡◌, ◌≢◌, inl, inr, List
 use Rattle.std.specs.List.{AllByRecursion, onto_first}
 use Rattle.std.proofs.lemmas.Bool.{cases_eq}
 use Rattle.mt_verify.specs.Lines.{feeds, lines}
-use Rattle.mt_verify.specs.Laws.{HasOpenLine, HasNoEmptyLine, LinesEndAtFeeds, LinesJoin, FeedsMakeWhole, WholeTextsJoin, WholeTextsHaveTheirFeeds}
+use Rattle.mt_verify.specs.Laws.{HasOpenLine, LinesEndAtFeeds, LinesJoin, FeedsMakeWhole, WholeTextsJoin, WholeTextsHaveTheirFeeds}
 use Rattle.mt_verify.specs.Inner.OpenLines.{FeedsEndOpenLines}
 use Rattle.mt_verify.proofs.Lines.{lines-nil, lines-feed, lines-byte, Lined, lined, feeds-feed, feeds-byte}
 
