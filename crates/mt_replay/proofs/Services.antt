@@ -1,7 +1,7 @@
 -- The services that only answer leave the kind, and the requests of a line can be served.
-use Rattle.std.proofs.Common.{ℕ, ◌*◌, ◌≤◌, ◌≡◌, Bool, true, false, List, [], ◌∷◌, ◌++◌, length, get_or, cond, All, refl, sym, ap, ◌∙◌, arith}
+use Rattle.std.proofs.Common.{ℕ, ◌*◌, ◌≤◌, ◌≡◌, Bool, true, false, List, [], ◌∷◌, ◌++◌, length, get_or, cond, All, Option, Some, None, refl, sym, subst, arith}
 use Rattle.std.proofs.lemmas.List.Elements.{All-head, All-tail}
-use Rattle.std.specs.Prelude.{nat_lt, Some, slice_index_or}
+use Rattle.std.specs.Prelude.{nat_lt, slice_index_or}
 use Rattle.mt_window.specs.declared.reply.TestResult.TheVariants.{NotTested}
 use Rattle.mt_window.specs.declared.reply.Value.TheVariants.{Result}
 use Rattle.mt_window.specs.declared.reply.Refusal.TheVariants.{Range}
@@ -15,12 +15,20 @@ use Rattle.mt_text.specs.Accepted.{IsFor, IsRequest, AreFor}
 use Rattle.mt_window.specs.Serving.{IsSoundHandlerOp, cost, IsReady}
 use Rattle.mt_blocks.specs.Slices.{Piece}
 use Rattle.mt_ram.specs.declared.state.State.{State}
-use Rattle.mt_ram.specs.declared.state.State.TheVariants.{Uninit, Stopped, Running, Suspended, Full, Partial}
+use Rattle.mt_ram.specs.declared.state.State.TheVariants as state
 use Rattle.mt_ram.specs.State.{RamTst}
 use Rattle.mt_window.specs.declared.reply.Reply.{Reply}
 use Rattle.mt_window.specs.declared.log.Entry.{Entry}
 use Rattle.mt_window.specs.declared.log.Entry.TheVariants.{Own}
-use Rattle.mt_replay.specs.Machine.{Machine, Step, with_ram, with_fls, called, fls_called}
+use Rattle.mt_port.specs.declared.board.Touch.{Touch}
+use Rattle.mt_text.specs.declared.line.Event.{Event}
+use Rattle.mt_text.specs.declared.line.Line.{Line}
+use Rattle.mt_text.specs.declared.line.RamCall.{RamCall}
+use Rattle.mt_text.specs.declared.line.FlsCall.{FlsCall}
+use Rattle.mt_replay.specs.declared.driven.Running.{Running}
+use Rattle.mt_replay.specs.declared.driven.FlsRunning.{FlsRunning}
+use Rattle.mt_replay.specs.Machine.{Machine, Step, step, running, begun, by_event, with_ram, with_fls, service_of, fls_service_of, by_service, by_fls_service}
+use Rattle.mt_replay.specs.Inner.Events.{Calls, Does, Steps, driven, ram_calls, fls_calls}
 use Rattle.mt_fls.specs.declared.state.State as fls
 use Rattle.mt_fls.specs.declared.state.State.TheVariants as fls_state
 use Rattle.mt_fls.specs.State.{FlsTst}
@@ -31,46 +39,46 @@ use Rattle.mt_ram.specs.Table.{Service, reply_to, GetTestResultPerBlock, GetTest
 pub stays_result : (r : RamTst) → after r GetTestResult ≡ r
 stays_result r = of r.state
   where
-    of : (state : State) → next_in (cell r GetTestResult state) r ≡ r
-    of Uninit = refl
-    of Stopped = refl
-    of (Running p) = refl
-    of (Suspended p) = refl
-    of Full = refl
-    of (Partial back) = refl
+    of : (s : State) → next_in (cell r GetTestResult s) r ≡ r
+    of state.Uninit = refl
+    of state.Stopped = refl
+    of (state.Running p) = refl
+    of (state.Suspended p) = refl
+    of state.Full = refl
+    of (state.Partial back) = refl
 
 pub stays_params : (r : RamTst) → after r GetAlgParams ≡ r
 stays_params r = of r.state
   where
-    of : (state : State) → next_in (cell r GetAlgParams state) r ≡ r
-    of Uninit = refl
-    of Stopped = refl
-    of (Running p) = refl
-    of (Suspended p) = refl
-    of Full = refl
-    of (Partial back) = refl
+    of : (s : State) → next_in (cell r GetAlgParams s) r ≡ r
+    of state.Uninit = refl
+    of state.Stopped = refl
+    of (state.Running p) = refl
+    of (state.Suspended p) = refl
+    of state.Full = refl
+    of (state.Partial back) = refl
 
 pub stays_algorithm : (r : RamTst) → after r GetTestAlgorithm ≡ r
 stays_algorithm r = of r.state
   where
-    of : (state : State) → next_in (cell r GetTestAlgorithm state) r ≡ r
-    of Uninit = refl
-    of Stopped = refl
-    of (Running p) = refl
-    of (Suspended p) = refl
-    of Full = refl
-    of (Partial back) = refl
+    of : (s : State) → next_in (cell r GetTestAlgorithm s) r ≡ r
+    of state.Uninit = refl
+    of state.Stopped = refl
+    of (state.Running p) = refl
+    of (state.Suspended p) = refl
+    of state.Full = refl
+    of (state.Partial back) = refl
 
 pub stays_cells : (r : RamTst) → after r GetNumberOfTestedCells ≡ r
 stays_cells r = of r.state
   where
-    of : (state : State) → next_in (cell r GetNumberOfTestedCells state) r ≡ r
-    of Uninit = refl
-    of Stopped = refl
-    of (Running p) = refl
-    of (Suspended p) = refl
-    of Full = refl
-    of (Partial back) = refl
+    of : (s : State) → next_in (cell r GetNumberOfTestedCells s) r ≡ r
+    of state.Uninit = refl
+    of state.Stopped = refl
+    of (state.Running p) = refl
+    of (state.Suspended p) = refl
+    of state.Full = refl
+    of (state.Partial back) = refl
 
 stays_telling : (r : RamTst) (block : ℕ) → next_in (telling r block) r ≡ r
 stays_telling r block = of (nat_lt block (length r.results))
@@ -82,33 +90,33 @@ stays_telling r block = of (nat_lt block (length r.results))
 pub stays_per_block : (r : RamTst) (block : ℕ) → after r (GetTestResultPerBlock block) ≡ r
 stays_per_block r block = of r.state
   where
-    of : (state : State) → next_in (cell r (GetTestResultPerBlock block) state) r ≡ r
-    of Uninit = refl
-    of Stopped = stays_telling r block
-    of (Running p) = stays_telling r block
-    of (Suspended p) = stays_telling r block
-    of Full = stays_telling r block
-    of (Partial back) = stays_telling r block
+    of : (s : State) → next_in (cell r (GetTestResultPerBlock block) s) r ≡ r
+    of state.Uninit = refl
+    of state.Stopped = stays_telling r block
+    of (state.Running p) = stays_telling r block
+    of (state.Suspended p) = stays_telling r block
+    of state.Full = stays_telling r block
+    of (state.Partial back) = stays_telling r block
 
 -- the same of FlsTst
 pub stays_bgnd : (f : FlsTst) → fls_table.after f fls_table.GetTestResultBgnd ≡ f
 stays_bgnd f = of f.state
   where
-    of : (state : fls.State) → next_in (fls_table.cell f fls_table.GetTestResultBgnd state) f ≡ f
+    of : (s : fls.State) → next_in (fls_table.cell f fls_table.GetTestResultBgnd s) f ≡ f
     of fls_state.Uninit = refl
     of _ = refl
 
 pub stays_fgnd : (f : FlsTst) → fls_table.after f fls_table.GetTestResultFgnd ≡ f
 stays_fgnd f = of f.state
   where
-    of : (state : fls.State) → next_in (fls_table.cell f fls_table.GetTestResultFgnd state) f ≡ f
+    of : (s : fls.State) → next_in (fls_table.cell f fls_table.GetTestResultFgnd s) f ≡ f
     of fls_state.Uninit = refl
     of _ = refl
 
 pub stays_details : (f : FlsTst) → fls_table.after f fls_table.GetErrorDetails ≡ f
 stays_details f = of f.state
   where
-    of : (state : fls.State) → next_in (fls_table.cell f fls_table.GetErrorDetails state) f ≡ f
+    of : (s : fls.State) → next_in (fls_table.cell f fls_table.GetErrorDetails s) f ≡ f
     of fls_state.Uninit = refl
     of _ = refl
 
@@ -138,20 +146,36 @@ ready_to_serve kind b requests free left sound for =
       ordered = sound.ordered;
     }
 
--- ---- a service that is answered at once
+-- ---- a call on a line
 
-pub does_call : (m : Machine) (ram : RamTst) (service : Service) (reply : Reply) (log : List Entry) → reply ≡ reply_to m.modules.ram service → ram ≡ after m.modules.ram service → log ≡ []
-    → called m service ≡ record { after = with_ram m.modules m.board ram; entries = log ++ Own reply ∷ []; touches = []; count = 0; attempts = []; requests = [] }
-does_call m ram service reply log told next none =
-    let step : RamTst → List Entry → Step = λ r entries. record { after = with_ram m.modules m.board r; entries = entries; touches = []; count = 0; attempts = []; requests = [] } in
-    ap (λ (r : RamTst). step r (Own (reply_to m.modules.ram service) ∷ [])) (sym next)
-    ∙ ap (λ (x : Reply). step ram (Own x ∷ [])) (sym told)
-    ∙ ap (λ (l : List Entry). step ram (l ++ Own reply ∷ [])) (sym none)
+-- a call of RamTst, and one of FlsTst
+pub ram_driven : (m : Machine) (call : RamCall) (r : Option Running) (requests : List Request)
+    → driven ram_calls (with_ram m.modules) m.board m.modules.ram call r requests ≡ by_service m (service_of call) r requests
+ram_driven m call None requests = refl
+ram_driven m call (Some r) requests = refl
 
-pub does_call_fls : (m : Machine) (f : FlsTst) (service : fls_table.Service) (reply : Reply) (log : List Entry) → reply ≡ fls_table.reply_to m.modules.fls service → f ≡ fls_table.after m.modules.fls service → log ≡ []
-    → fls_called m service ≡ record { after = with_fls m.modules m.board f; entries = log ++ Own reply ∷ []; touches = []; count = 0; attempts = []; requests = [] }
-does_call_fls m f service reply log told next none =
-    let step : FlsTst → List Entry → Step = λ r entries. record { after = with_fls m.modules m.board r; entries = entries; touches = []; count = 0; attempts = []; requests = [] } in
-    ap (λ (r : FlsTst). step r (Own (fls_table.reply_to m.modules.fls service) ∷ [])) (sym next)
-    ∙ ap (λ (x : Reply). step f (Own x ∷ [])) (sym told)
-    ∙ ap (λ (l : List Entry). step f (l ++ Own reply ∷ [])) (sym none)
+pub fls_driven : (m : Machine) (call : FlsCall) (r : Option FlsRunning) (requests : List Request)
+    → driven fls_calls (with_fls m.modules) m.board m.modules.fls call r requests ≡ by_fls_service m (fls_service_of call) r requests
+fls_driven m call None requests = refl
+fls_driven m call (Some r) requests = refl
+
+-- a call that was found to run tests does what they do
+pub does_driven : {C K R X V : Type 0} (calls : Calls C K R X V) (with : Board → C → Machine) (board : Board) (old begun_by : C) (call : K) (o : Option R) (r : R) (requests : List Request)
+    → o ≡ Some r → begun_by ≡ old → {m' : Machine} {answer : Reply} {log : List Entry} {tape tape' : Option (List Touch)}
+    → Does (running with (calls.events r) (begun board begun_by requests)) m' answer log tape tape' → Does (driven calls with board old call o requests) m' answer log tape tape'
+does_driven {C} {K} {R} calls with board old begun_by call o r requests runs same {m'} {answer} {log} {tape} {tape'} does =
+    subst (λ (x : Option R). Does (driven calls with board old call x requests) m' answer log tape tape') (sym runs)
+    (subst (λ (c : C). Does (running with (calls.events r) (begun board c requests)) m' answer log tape tape') same does)
+
+-- so does a call that is said in another way
+pub does_same : {s z : Step} → s ≡ z → {m' : Machine} {answer : Reply} {log : List Entry} {tape tape' : Option (List Touch)}
+    → Does s m' answer log tape tape' → Does z m' answer log tape tape'
+does_same e {m'} {answer} {log} {tape} {tape'} does = subst (λ (x : Step). Does x m' answer log tape tape') e does
+
+-- what an event does is what its line does
+pub does_event : (m : Machine) (line : Line) {event : Event} → line.event ≡ event → {m' : Machine} {answer : Reply} {log : List Entry} {tape tape' : Option (List Touch)}
+    → Does (by_event m event line.requests.items) m' answer log tape tape' → Steps m m' line (log ++ Own answer ∷ []) tape tape'
+unfolding step
+does_event m line is {m'} {answer} {log} {tape} {tape'} does =
+    let d = subst (λ (e : Event). Does (by_event m e line.requests.items) m' answer log tape tape') (sym is) does in
+    record { after = d.after; entries = d.entries; taped = d.taped }

@@ -36,10 +36,8 @@ pub trait Driven: Callee {
     /// What its calls do.
     ghost calls: { Calls Self Self.Call Self.Running Piece Verdict };
 
-    /// The shape of the board that the module is set for, a part of its setting.
+    /// The shape of the board that the module is set for.
     ghost shape: { Self → Shape };
-
-    ghost same_shape: { (a : Self) (b : Self) → Self.setting a ≡ Self.setting b → shape a ≡ shape b };
 
     /// Takes a call. One that runs tests is not begun.
     fn take(&mut self, call: Self::Call) -> Called<Self::Running>
@@ -59,6 +57,9 @@ pub trait Driven: Callee {
         ensures shape { (B.state board.new).shape ≡ (B.state board.old).shape }
         ensures none { (B.state board.new).left ≡ [] }
         ensures free { (B.state board.new).held ≡ false };
+
+    /// The shape is part of the setting.
+    ghost same_shape: { (a : Self) (b : Self) → Self.Callee.setting a ≡ Self.Callee.setting b → shape a ≡ shape b };
 }
 
 /// The calls of RamTst that run tests.
@@ -71,9 +72,10 @@ pub enum Running {
 
 impl Driven for Ram {
     ghost use Rattle.std.specs.Prelude.{◌≡◌};
+    ghost use Rattle.std.proofs.Common.{ap};
     ghost use Rattle.mt_seq.specs.declared.sequence.Verdict.{Verdict};
     ghost use Rattle.mt_blocks.specs.Slices.{Piece};
-    ghost use Rattle.mt_ram.specs.State.{RamTst};
+    ghost use Rattle.mt_ram.specs.State.{RamTst, Setting};
     ghost use Rattle.mt_replay.specs.Inner.Events.{ram_calls};
 
     type Call = RamCall;
@@ -88,7 +90,7 @@ impl Driven for Ram {
 
     ghost shape = { λ (r : RamTst). r.setting.shape };
 
-    ghost same_shape = { λ a b e. ap (λ s. s.shape) e };
+    ghost same_shape = { λ a b e. ap (λ (s : Setting). s.shape) e };
 
     #[tactic(auto, using(crate::proofs::Services::stays_result, crate::proofs::Services::stays_per_block, crate::proofs::Services::stays_params, crate::proofs::Services::stays_algorithm, crate::proofs::Services::stays_cells))]
     fn take(&mut self, call: RamCall) -> Called<Running> {
@@ -135,9 +137,10 @@ pub enum FlsRunning {
 
 impl Driven for Fls {
     ghost use Rattle.std.specs.Prelude.{ℕ, ◌≡◌};
+    ghost use Rattle.std.proofs.Common.{ap};
     ghost use Rattle.std.specs.declared.option.Option.{Option};
     ghost use Rattle.mt_blocks.specs.Slices.{Piece};
-    ghost use Rattle.mt_fls.specs.State.{FlsTst};
+    ghost use Rattle.mt_fls.specs.State.{FlsTst, Setting};
     ghost use Rattle.mt_replay.specs.Inner.Events.{fls_calls};
 
     type Call = FlsCall;
@@ -152,7 +155,7 @@ impl Driven for Fls {
 
     ghost shape = { λ (f : FlsTst). f.setting.shape };
 
-    ghost same_shape = { λ a b e. ap (λ s. s.shape) e };
+    ghost same_shape = { λ a b e. ap (λ (s : Setting). s.shape) e };
 
     #[tactic(auto, using(crate::proofs::Services::stays_bgnd, crate::proofs::Services::stays_fgnd, crate::proofs::Services::stays_details))]
     fn take(&mut self, call: FlsCall) -> Called<FlsRunning> {

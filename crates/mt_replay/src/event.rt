@@ -51,7 +51,7 @@ fn run_tests<M: Driven, B: Bench>(
     requires requests { AreReady M.kind (B.state board.old).shape requests.old.items }
     ensures does { (with : Board → M → Machine)
         → Does (running with ((M.calls).events call) (begun (B.state board.old) module.old requests.old.items))
-            (with (B.state board.new) module.new) result log.new (B.tape board.old) (B.tape board.new) }
+        (with (B.state board.new) module.new) result log.new (B.tape board.old) (B.tape board.new) }
     ensures free { IsFree (B.state board.new) (M.shape module.old) }
     ensures setting { M.setting module.new ≡ M.setting module.old }
 {
@@ -75,7 +75,7 @@ fn answer_call<M: Driven, B: Bench>(
         → AreReady M.kind (B.state board.old).shape requests.old.items }
     ensures does { (with : Board → M → Machine)
         → Does (driven M.calls with (B.state board.old) module.old call ((M.calls).running call) requests.old.items)
-            (with (B.state board.new) module.new) result log.new (B.tape board.old) (B.tape board.new) }
+        (with (B.state board.new) module.new) result log.new (B.tape board.old) (B.tape board.new) }
     ensures free { IsFree (B.state board.new) (M.shape module.old) }
     ensures setting { M.setting module.new ≡ M.setting module.old }
 {
@@ -101,12 +101,13 @@ pub fn perform<B: Bench>(
         (machine (B.state board.new) modules.new) line.old log.new (B.tape board.old) (B.tape board.new) }
     ensures ready { IsReady (B.state board.old).shape (machine (B.state board.new) modules.new) }
 {
+    let requests = &mut line.requests;
     match line.event {
         Event::Nothing => None,
-        Event::TickRam => Some(run_tests(&mut modules.ram, board, Running::Tick, &mut line.requests, log)),
-        Event::TickFls => Some(run_tests(&mut modules.fls, board, FlsRunning::Tick, &mut line.requests, log)),
-        Event::Ram(call) => Some(answer_call(&mut modules.ram, board, call, &mut line.requests, log)),
-        Event::Fls(call) => Some(answer_call(&mut modules.fls, board, call, &mut line.requests, log)),
+        Event::TickRam => Some(run_tests(&mut modules.ram, board, Running::Tick, requests, log)),
+        Event::TickFls => Some(run_tests(&mut modules.fls, board, FlsRunning::Tick, requests, log)),
+        Event::Ram(call) => Some(answer_call(&mut modules.ram, board, call, requests, log)),
+        Event::Fls(call) => Some(answer_call(&mut modules.fls, board, call, requests, log)),
         Event::App(op) => Some(reply_of(board.app(&op))),
         Event::Inject(fault) => Some(inject(board, fault)),
         Event::Heal => {
