@@ -1,5 +1,5 @@
 -- Passes cut into groups.
-use Rattle.std.proofs.Common.{ℕ, suc, zero, ◌+◌, ◌-◌, ◌*◌, ◌<◌, ◌≤◌, ◌≡◌, Bool, true, false, cond, leb, List, [], ◌∷◌, ◌++◌, take, drop, map, length, Option, Some, refl, sym, ap, ◌∙◌, subst, arith, inl, inr, length-append}
+use Rattle.std.proofs.Common.{ℕ, suc, zero, ◌+◌, ◌-◌, ◌*◌, ◌/◌, ◌<◌, ◌≤◌, ◌≡◌, Bool, true, false, cond, leb, List, [], ◌∷◌, ◌++◌, take, drop, map, length, Option, Some, refl, sym, ap, ◌∙◌, subst, arith, inl, inr, length-append}
 use Rattle.std.specs.Prelude.{◌⊎◌}
 use Rattle.std.specs.List.{range_with_len}
 use Rattle.std.proofs.Math.Nat.{le-mul_of_pos_right, div-lt_iff_lt-mul, add-mul}
@@ -9,11 +9,16 @@ use Rattle.std.proofs.lemmas.List.{length-drop, take-append-drop}
 use Rattle.std.proofs.lemmas.List.FromFn.{length-map-range_with_len}
 use Rattle.mt_blocks.specs.declared.span.Span.{Span}
 use Rattle.mt_blocks.specs.declared.pass.Position.{Position}
-use Rattle.mt_blocks.specs.Slices.{Piece, span_len, span_at, slice_count, piece, pieces, pieces_from, pass, from_next, piece_at, next_of, AreSpans, IsValid}
+use Rattle.mt_blocks.specs.Slices.{Piece, span_len, span_at, slice_count, piece, pieces, pieces_from, pass, from_place, from_next, piece_at, next_of, AreSpans, IsValid}
 use Rattle.mt_blocks.specs.Groups.{group_len, groups_up_to, ticks}
-use Rattle.mt_blocks.specs.Inner.Small.{AreSmall}
 use Rattle.mt_blocks.specs.Laws.{joined, GroupsAreThePass}
+use Rattle.mt_blocks.specs.Inner.Ticks.{GroupsTakeATick}
 use Rattle.mt_blocks.proofs.Passes.{count_inside, from_step}
+
+-- no slice has more words than a tick may test
+abbrev pub AreSmall : ℕ → List Piece → Type 0
+AreSmall N [] = Unit {0}
+AreSmall N (p ∷ more) = (p.slice.n ≤ N) × AreSmall N more
 
 small-append : (N : ℕ) (xs ys : List Piece) → AreSmall N xs → AreSmall N ys → AreSmall N (xs ++ ys)
 small-append N [] ys a b = b
@@ -116,6 +121,45 @@ joined-groups N (suc most) (p ∷ more) small long =
 
 pub groups_are_the_pass : GroupsAreThePass
 groups_are_the_pass K N spans low = joined-groups N (length (pass K spans)) (pass K spans) (small-pass K N 0 spans low) (omega arith)
+
+-- ---- the ticks of what is left of a pass
+
+small-from : (K N : ℕ) (spans : List Span) (x : Position) → K ≤ N → AreSmall N (from_place K spans x)
+unfolding from_place
+small-from K N spans x low = small-drop N (x.offset / K) (pieces_from K x.block (drop x.block spans)) (small-pass K N x.block (drop x.block spans) low)
+
+-- a group has a slice
+some_group : (N : ℕ) (p : Piece) (more : List Piece) → p.slice.n ≤ N → group_len N (p ∷ more) ≡ suc (group_len (N - p.slice.n) more)
+some_group N p more fits = ap (λ (b : Bool). cond b (suc (group_len (N - p.slice.n) more)) 0) (le-leb p.slice.n N fits)
+
+-- a longer bound leaves the groups
+enough : (N most other : ℕ) (L : List Piece) → AreSmall N L → length L ≤ most → length L ≤ other → length (groups_up_to most N L) ≡ length (groups_up_to other N L)
+enough N zero zero [] small a b = refl
+enough N zero (suc other) [] small a b = refl
+enough N (suc most) zero [] small a b = refl
+enough N (suc most) (suc other) [] small a b = refl
+enough N zero other (p ∷ more) small a b = absurd (omega (arith, a))
+enough N (suc most) zero (p ∷ more) small a b = absurd (omega (arith, b))
+enough N (suc most) (suc other) (p ∷ more) small a b =
+    let g = group_len N (p ∷ more) in
+    let one = some_group N p more small.0 in
+    let less = length-drop g (p ∷ more) in
+    ap suc (enough N most other (drop g (p ∷ more)) (small-drop N g (p ∷ more) small) (omega (arith, less, one, a)) (omega (arith, less, one, b)))
+
+-- what is left behind the first group takes one tick less
+ticks-group : (N : ℕ) (p : Piece) (more : List Piece) → AreSmall N (p ∷ more) → ticks N (p ∷ more) ≡ suc (ticks N (drop (group_len N (p ∷ more)) (p ∷ more)))
+unfolding ticks
+ticks-group N p more small =
+    let g = group_len N (p ∷ more) in
+    let one = some_group N p more small.0 in
+    let less = length-drop g (p ∷ more) in
+    ap suc (enough N (length more) (length (drop g (p ∷ more))) (drop g (p ∷ more)) (small-drop N g (p ∷ more) small) (omega (arith, less, one)) (omega arith))
+
+pub groups_take_a_tick : GroupsTakeATick
+groups_take_a_tick K N spans p ok valid low =
+    let step = from_step K spans p ok valid in
+    subst (λ (l : List Piece). ticks N l ≡ suc (ticks N (drop (group_len N l) l))) (sym step)
+    (ticks-group N (piece_at K spans p) (from_next K spans (next_of K spans p)) (subst (AreSmall N) step (small-from K N spans p low)))
 
 -- a pass has at most 65,536 slices a block
 slices_few : (K : ℕ) (s : Span) → 1 ≤ K → slice_count K s ≤ span_len s

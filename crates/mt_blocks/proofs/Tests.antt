@@ -8,7 +8,7 @@ use Rattle.mt_blocks.specs.declared.span.Span.{Span}
 use Rattle.mt_blocks.specs.declared.pass.Position.{Position}
 use Rattle.mt_blocks.specs.Slices.{Piece, span_len, span_at, ends_block, from_place, from_next, piece_at, next_of, or_start, test_from, next_in, test_rest, AreSpans, IsValid}
 use Rattle.mt_blocks.specs.Groups.{group_len}
-use Rattle.mt_blocks.specs.Laws.{word_count, PassesGoOn, PassesBegin, BlocksBegin}
+use Rattle.mt_blocks.specs.Laws.{PassesGoOn, PassesBegin, BlocksBegin}
 use Rattle.mt_blocks.proofs.Passes.{from_step, from_first, next_valid, block_step, block_end, block_first}
 use Rattle.mt_blocks.proofs.Words.{word_count-block, word_count-pass}
 

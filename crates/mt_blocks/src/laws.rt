@@ -1,6 +1,7 @@
 //! Laws of slices and groups.
 
 ghost use Rattle.mt_blocks.specs.Laws.{SlicesAreTheBlock, OnlyTheLastIsShorter, GroupsFit, GroupsAreLongest, GroupsAreThePass, PassesGoOn, BlocksBegin, PassesBegin};
+ghost use Rattle.mt_blocks.specs.Inner.Ticks.{GroupsTakeATick};
 
 /// The slices of a block are the block, in order, each word once, and no slice but the last is shorter than the others.
 pub fn slices_are_the_block()
@@ -17,6 +18,11 @@ pub fn groups_are_longest()
 /// The groups of a pass, one after another, are the pass.
 pub fn groups_are_the_pass()
     ensures { GroupsAreThePass }
+{}
+
+/// What is left of a pass takes one tick more than what is left behind its first group.
+pub fn groups_take_a_tick()
+    ensures { GroupsTakeATick }
 {}
 
 /// From a position on, the slices of a pass are the one there, and then those from the next position on; so are those of a test

@@ -10,7 +10,8 @@ mod span;
 
 pub use config::{Block, FlashBlock, FlsConfig, ParamSet, RamConfig};
 pub use laws::{
-    groups_are_longest, groups_are_the_pass, passes_begin, passes_go_on, slices_are_the_block,
+    groups_are_longest, groups_are_the_pass, groups_take_a_tick, passes_begin, passes_go_on,
+    slices_are_the_block,
 };
 pub use list::List;
 pub use pass::{

@@ -1,7 +1,5 @@
 -- What boundaries leave of FlsTst.
-use Rattle.mt_window.specs.Serving.{Scene}
 use Rattle.mt_window.specs.Kept.{IsKept, due_served-moves, left_served-moves}
-use Rattle.mt_fls.specs.State.{FlsTst}
 use Rattle.mt_fls.specs.Laws.{Moves, BoundariesMove, RequestsLeftMove}
 use Rattle.mt_fls.specs.Walks.{Moves-refl, Moves-trans, row-moves}
 use Rattle.mt_fls.specs.Table.{fls_table}

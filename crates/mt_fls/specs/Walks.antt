@@ -1,7 +1,6 @@
 -- What the walks of the running calls keep. Their proofs alone need it, and no contract of a public call cites it.
-use Rattle.std.specs.Prelude.{ℕ, ◌<◌, ◌≤◌, ◌≡◌, ◌*◌, Bool, true, false, length, take, List, Option, Some, None, IsSome, is_some, nat_lt, refl}
+use Rattle.std.specs.Prelude.{ℕ, ◌<◌, ◌≤◌, ◌≡◌, ◌*◌, false, length, take, List, Some, refl}
 use Rattle.std.proofs.Common.{sym, ap, ◌∙◌, subst}
-use Rattle.mt_port.specs.declared.board.Shape.{Shape}
 use Rattle.mt_port.specs.declared.request.HandlerCall.{HandlerCall}
 use Rattle.mt_port.specs.declared.request.HandlerCall.TheVariants as calls
 use Rattle.mt_window.specs.declared.reply.Reply.{Reply}

@@ -17,7 +17,7 @@ use Rattle.mt_text.specs.Canonical.{canonical}
 use Rattle.mt_text.specs.Lines.{line_of}
 use Rattle.mt_text.specs.declared.line.Line.{Line}
 use Rattle.mt_gen.specs.Numbers.{next, drawn_form, drawn_address, drawn_word}
-use Rattle.mt_gen.specs.Inner.EachForm.{OfEachForm}
+use Rattle.mt_gen.specs.Inner.Forms.{IsOfAForm, RamTick, FlsTick, Writes, Reads, Copies, Asks, LinesAreOfForms}
 use Rattle.mt_gen.specs.Script.{job_shape, interrupt, ram_tick, fls_tick, write_line, read_line, copy_line, result_line, line_of_form, drawn_line, lines_behind, first_lines, script}
 
 -- ---- all lines of a script
@@ -48,6 +48,15 @@ lines_behind-more count x = rw add-one refl
 
 -- ---- by form
 
+-- what holds of a line of each form holds of the line of a form
+pub record OfEachForm (P : Line → Type 0) : Type 0 where
+  pub ram : (offset addr word : ℕ) → offset < 512 → addr < 256 → word < 65536 → P (ram_tick offset addr word)
+  pub fls : (offset addr : ℕ) → offset < 8 → addr < 64 → P (fls_tick offset addr)
+  pub write : (addr word : ℕ) → addr < 256 → word < 65536 → P (write_line addr word)
+  pub read : (addr : ℕ) → addr < 256 → P (read_line addr)
+  pub copy : (src dst : ℕ) → src < 256 → dst < 256 → P (copy_line src dst)
+  pub result : P result_line
+
 either : (P : Line → Type 0) (b : Bool) (l m : Line) → P l → P m → P (cond b l m)
 either P true l m h k = h
 either P false l m h k = k
@@ -64,6 +73,19 @@ of_form P each f addr word a w =
 pub of_number : (P : Line → Type 0) → OfEachForm P → (x : ℕ) → P (drawn_line x)
 unfolding drawn_line
 of_number P each x = of_form P each (drawn_form x) (drawn_address x) (drawn_word x) (omega arith) (omega arith)
+
+each_form : OfEachForm IsOfAForm
+each_form = record {
+  ram = λ offset addr word o a w. RamTick offset addr word o a w refl;
+  fls = λ offset addr o a. FlsTick offset addr o a refl;
+  write = λ addr word a w. Writes addr word a w refl;
+  read = λ addr a. Reads addr a refl;
+  copy = λ src dst s d. Copies src dst s d refl;
+  result = Asks refl;
+}
+
+pub lines_are_of_forms : LinesAreOfForms
+lines_are_of_forms = behind_all IsOfAForm (of_number IsOfAForm each_form)
 
 -- ---- lines are accepted
 

@@ -1,2 +1,2 @@
 -- What proofs of the crates above cite.
-pub mod EachForm
+pub mod Forms

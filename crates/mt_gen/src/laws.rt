@@ -9,6 +9,7 @@ ghost use Rattle.mt_text.specs.Lines.{line_of};
 ghost use Rattle.mt_gen.specs.Numbers.{next};
 ghost use Rattle.mt_gen.specs.Script.{job_shape, drawn_line, lines_behind, script};
 ghost use Rattle.mt_gen.specs.Summary.{summary_of, with_entry};
+ghost use Rattle.mt_gen.specs.Inner.Forms.{LinesAreOfForms};
 
 use mt_text::{canonical_lines_spell_themselves, reading_is_spelling};
 
@@ -31,6 +32,11 @@ pub fn scripts_are_accepted()
 /// The lines behind a number are that of the next number, and then those behind the next number.
 pub fn lines_go_on()
     ensures { (count x : ℕ) → lines_behind (count + 1) x ≡ drawn_line (next x) ∷ lines_behind count (next x) }
+{}
+
+/// Each line behind the first three has one of six forms, with numbers that are in range.
+pub fn lines_are_of_forms()
+    ensures { LinesAreOfForms }
 {}
 
 /// A summary with one entry more is that of all entries with this one at their end.

@@ -13,7 +13,10 @@ mod summary;
 mod tests;
 
 pub use config::job_config;
-pub use laws::{lines_go_on, scripts_are_accepted, scripts_have_20000_lines, summaries_are_sums};
+pub use laws::{
+    lines_are_of_forms, lines_go_on, scripts_are_accepted, scripts_have_20000_lines,
+    summaries_are_sums,
+};
 pub use lines::ScriptLines;
 pub use source::GenSource;
 pub use summary::Summary;

@@ -1,16 +1,14 @@
 -- On sound memory sequences leave no trace.
 use Rattle.std.proofs.Common.{ℕ, Bool, ◌≡◌, List, Option, Some, None, refl, ap, sym, subst}
 use Rattle.mt_port.specs.Board.{Board}
-use Rattle.mt_port.specs.declared.request.HandlerCall.{HandlerCall}
 use Rattle.mt_seq.specs.declared.sequence.Verdict.{Verdict}
 use Rattle.mt_seq.specs.Attempts.{attempt_words, attempt_verdict}
 use Rattle.mt_seq.specs.Laws.{DroppedAttemptsStay, WholeAttemptsPass}
-use Rattle.mt_window.specs.Serving.{Scene}
-use Rattle.mt_window.specs.Slices.{Tests, Tried}
-use Rattle.mt_window.specs.Kept.{IsInvariant, EntersSound, AreAlike, ran-alike, event-alike}
+use Rattle.mt_window.specs.Slices.{Tried}
+use Rattle.mt_window.specs.Kept.{IsInvariant, EntersSound, ran-alike, event-alike}
 use Rattle.mt_blocks.specs.Slices.{Piece}
 use Rattle.mt_ram.specs.State.{RamTst}
-use Rattle.mt_ram.specs.Table.{Service, row}
+use Rattle.mt_ram.specs.Table.{Service}
 use Rattle.mt_ram.specs.Event.{job_of, attempt_at, running, of_pass, of_test}
 use Rattle.mt_ram.specs.Kept.{cell_leaves, handlers_leave_setting}
 use Rattle.mt_ram.specs.Plain.{left_by, untouching, HasAcceptedMarches, LeavesNoTrace}

@@ -10,3 +10,4 @@ pub mod Moves
 pub mod Walks
 pub mod PassWalks
 pub mod TestWalks
+pub mod Inner

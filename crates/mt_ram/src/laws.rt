@@ -4,6 +4,7 @@ ghost use Rattle.mt_ram.specs.Event.{ticking, full_test};
 ghost use Rattle.mt_window.specs.Waits.{ServesInTime, KeepsBoard};
 ghost use Rattle.mt_ram.specs.Plain.{LeavesNoTrace, PartialTestsLeaveNoTrace};
 ghost use Rattle.mt_ram.specs.Laws.{PartialTestsServeInTime, PartialTestsKeepTheBoard, DroppedAttemptsLeaveWords, TicksRest, TicksTest, TicksEndTheirGroup, BoundariesMove, RequestsLeftMove, ServicesLeaveSetting, LeavesSetting, PartialTestsLeaveSetting};
+ghost use Rattle.mt_ram.specs.Inner.Sets.{SetsAreCut, SlicesAreSound};
 
 use crate::pass_walk::PassWalk;
 use crate::state::Ram;
@@ -80,4 +81,10 @@ pub fn running_calls_leave_setting()
     ensures tick { LeavesSetting ticking }
     ensures full { LeavesSetting full_test }
     ensures partial { PartialTestsLeaveSetting }
+{}
+
+/// An accepted set is cut into slices, each of which is a part of the RAM that its job tests soundly.
+pub fn accepted_sets_are_sound()
+    ensures cut { SetsAreCut }
+    ensures slices { SlicesAreSound }
 {}

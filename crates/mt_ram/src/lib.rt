@@ -12,9 +12,9 @@ mod state;
 mod test_walk;
 
 pub use laws::{
-    dropped_attempts_leave_words, handlers_leave_results, running_calls_keep_the_board,
-    running_calls_leave_setting, services_leave_setting, tests_leave_no_trace,
-    ticks_end_by_the_mark, waits_of_running_calls,
+    accepted_sets_are_sound, dropped_attempts_leave_words, handlers_leave_results,
+    running_calls_keep_the_board, running_calls_leave_setting, services_leave_setting,
+    tests_leave_no_trace, ticks_end_by_the_mark, waits_of_running_calls,
 };
 pub use state::{Ram, State};
 

@@ -10,9 +10,8 @@ use Rattle.mt_port.specs.Streams.{WhereTold}
 use Rattle.mt_port.specs.declared.stream.Failed.{Failed}
 use Rattle.mt_port.specs.Inner.Streams.{WhereTold-then, WhereTold-map}
 use Rattle.mt_verify.specs.Lines.{feeds, lines, first_other_line, line_at_end}
-use Rattle.mt_verify.specs.Laws.{IsWhole, HasNoEmptyLine}
-use Rattle.mt_verify.proofs.Whole.{open_line, as_many}
-use Rattle.mt_verify.proofs.Ends.{mismatch, expected_ended, given_ended, equal_texts, last_feed_lacks}
+use Rattle.mt_verify.specs.Laws.{IsWhole, HasNoEmptyLine, MismatchesTell, ExpectedEnds, GivenEnds, EqualTextsHaveNoOther, LastFeedMayLack, WholeTextsHaveTheirFeeds}
+use Rattle.mt_verify.specs.Inner.OpenLines.{FeedsEndOpenLines}
 use Rattle.mt_replay.specs.declared.comparing.State.{State}
 use Rattle.mt_replay.specs.declared.comparing.State.TheVariants as state
 use Rattle.mt_replay.specs.declared.comparing.Verdict.TheVariants as verdict
@@ -67,23 +66,23 @@ begun_more given b left held held' expected part p q e =
     (λ x y z m n. m ∙ ap (λ (l : List ℕ). expected ++ l) n ∙ sym (append_assoc expected part z))
 
 -- another byte is given
-other_byte : (shared rest held more xs : List ℕ) (x y : ℕ) → x ≢ y
+other_byte : MismatchesTell → (shared rest held more xs : List ℕ) (x y : ℕ) → x ≢ y
     → first_other_line ((shared ++ x ∷ rest) ++ more) (shared ++ ((y ∷ held) ++ xs)) ≡ Some (feeds shared + 1)
-other_byte shared rest held more xs x y other =
-    ap (λ (l : List ℕ). first_other_line l (shared ++ ((y ∷ held) ++ xs))) (append_assoc shared (x ∷ rest) more) ∙ mismatch shared (rest ++ more) (held ++ xs) x y other
+other_byte tells shared rest held more xs x y other =
+    ap (λ (l : List ℕ). first_other_line l (shared ++ ((y ∷ held) ++ xs))) (append_assoc shared (x ∷ rest) more) ∙ tells shared (rest ++ more) (held ++ xs) x y other
 
-other_given : (given left : Option (List ℕ)) (shared rest held : List ℕ) (x y : ℕ) → x ≢ y → Begun given (prepend_known (y ∷ held) left) shared
+other_given : MismatchesTell → (given left : Option (List ℕ)) (shared rest held : List ℕ) (x y : ℕ) → x ≢ y → Begun given (prepend_known (y ∷ held) left) shared
     → WhereTold given (prepend_known (y ∷ held) left) (Told (state.Other (feeds shared + 1)) (shared ++ x ∷ rest))
-other_given None left shared rest held x y other p = tt
-other_given (Some w) None shared rest held x y other p = p
-other_given (Some w) (Some xs) shared rest held x y other p =
-    λ more full. ap (first_other_line ((shared ++ x ∷ rest) ++ more)) p ∙ other_byte shared rest held more xs x y other
+other_given tells None left shared rest held x y other p = tt
+other_given tells (Some w) None shared rest held x y other p = p
+other_given tells (Some w) (Some xs) shared rest held x y other p =
+    λ more full. ap (first_other_line ((shared ++ x ∷ rest) ++ more)) p ∙ other_byte tells shared rest held more xs x y other
 
-pub differs : (given left : Option (List ℕ)) (shared rest held : List ℕ) → 0 < length rest → 0 < length held → Differ rest held → Begun given (prepend_known held left) shared
+pub differs : MismatchesTell → (given left : Option (List ℕ)) (shared rest held : List ℕ) → 0 < length rest → 0 < length held → Differ rest held → Begun given (prepend_known held left) shared
     → WhereTold given (prepend_known held left) (Told (state.Other (feeds shared + 1)) (shared ++ rest))
-differs given left shared [] held some some' other p = absurd (omega (arith, some))
-differs given left shared (x ∷ rest) [] some some' other p = absurd (omega (arith, some'))
-differs given left shared (x ∷ rest) (y ∷ held) some some' other p = other_given given left shared rest held x y other p
+differs tells given left shared [] held some some' other p = absurd (omega (arith, some))
+differs tells given left shared (x ∷ rest) [] some some' other p = absurd (omega (arith, some'))
+differs tells given left shared (x ∷ rest) (y ∷ held) some some' other p = other_given tells given left shared rest held x y other p
 
 -- ---- the given text ended
 
@@ -105,31 +104,31 @@ pub byte_left : (tally line : ℕ) (rest : List ℕ) → 0 < length rest → sli
 byte_left tally line [] some other e = absurd (omega (arith, some))
 byte_left tally line (x ∷ rest) some other e = record { next = x; more = rest; is = refl; some = λ feed none. other feed; line_is = e }
 
-ended_other : (shared before rest more : List ℕ) (tally line : ℕ) → before ≡ shared → tally ≡ feeds shared → GoesOn tally line rest → HasNoEmptyLine ((shared ++ rest) ++ more)
+ended_other : GivenEnds → (shared before rest more : List ℕ) (tally line : ℕ) → before ≡ shared → tally ≡ feeds shared → GoesOn tally line rest → HasNoEmptyLine ((shared ++ rest) ++ more)
     → first_other_line ((shared ++ rest) ++ more) before ≡ Some line
-ended_other shared before rest more tally line e t h full =
+ended_other ends shared before rest more tally line e t h full =
     let all : (shared ++ rest) ++ more ≡ shared ++ h.next ∷ (h.more ++ more) = append_assoc shared rest more ∙ ap (λ (l : List ℕ). shared ++ (l ++ more)) h.is in
     let some : h.next ≡ 10 → h.more ++ more ≢ [] = λ feed none. h.some feed (front_empty h.more more none) in
     ap (λ (l : List ℕ). first_other_line l before) all ∙ ap (first_other_line (shared ++ h.next ∷ (h.more ++ more))) e
-    ∙ given_ended shared (h.more ++ more) h.next (subst HasNoEmptyLine all full) some
+    ∙ ends shared (h.more ++ more) h.next (subst HasNoEmptyLine all full) some
     ∙ ap (λ (n : ℕ). Some (line_at_end n h.next)) (sym t) ∙ ap (λ (n : ℕ). Some n) (sym h.line_is)
   where
     front_empty : (xs ys : List ℕ) → xs ++ ys ≡ [] → xs ≡ []
     front_empty [] ys none = refl
     front_empty (x ∷ xs) ys none = let size : length (x ∷ (xs ++ ys)) ≡ 0 = ap (λ (l : List ℕ). length l) none in absurd (omega (arith, size))
 
-pub ended_before : (s : State) (tally : ℕ) (given b c : Option (List ℕ)) (shared rest : List ℕ) → tally ≡ feeds shared → Begun given b shared → Filled false b c → EndsBefore s tally rest
+pub ended_before : GivenEnds → (s : State) (tally : ℕ) (given b c : Option (List ℕ)) (shared rest : List ℕ) → tally ≡ feeds shared → Begun given b shared → Filled false b c → EndsBefore s tally rest
     → StandsBy s tally (shared ++ rest) given c
-ended_before state.Matching tally given b c shared rest t p q h = absurd h
-ended_before (state.Other line) tally given b c shared rest t p q h =
-    (tt, WhereTold-then given b c p q (λ x y z m n. λ more full. ended_other shared x rest more tally line (m ∙ ap (λ (l : List ℕ). shared ++ l) (n.0 ∙ n.1 refl) ∙ append-nil shared) t h full))
-ended_before (state.Lacking line) tally given b c shared rest t p q h = (
+ended_before ends state.Matching tally given b c shared rest t p q h = absurd h
+ended_before ends (state.Other line) tally given b c shared rest t p q h =
+    (tt, WhereTold-then given b c p q (λ x y z m n. λ more full. ended_other ends shared x rest more tally line (m ∙ ap (λ (l : List ℕ). shared ++ l) (n.0 ∙ n.1 refl) ∙ append-nil shared) t h full))
+ended_before ends (state.Lacking line) tally given b c shared rest t p q h = (
   let e : feeds (shared ++ rest) ≡ tally + 1 = ap (λ (l : List ℕ). feeds (shared ++ l)) h.0 ∙ feeds-append shared (10 ∷ []) ∙ ap (λ (n : ℕ). n + 1) (sym t) in sym e,
   WhereTold-then given b c p q (λ x y z m n.
       let same : x ≡ shared = m ∙ ap (λ (l : List ℕ). shared ++ l) (n.0 ∙ n.1 refl) ∙ append-nil shared in
       (ap (λ (l : List ℕ). shared ++ l) h.0 ∙ ap (λ (l : List ℕ). l ++ 10 ∷ []) (sym same), h.1 ∙ ap (λ (n : ℕ). n + 2) (t ∙ ap feeds (sym same)), n.1 refl)),
 )
-ended_before state.Broken tally given b c shared rest t p q h = absurd h
+ended_before ends state.Broken tally given b c shared rest t p q h = absurd h
 
 -- ---- the source failed
 
@@ -155,18 +154,18 @@ broken_more given c expected text p = WhereTold-map given c p (λ x y h. record 
   is = ap (λ (l : List ℕ). l ++ text) h.is ∙ append_assoc h.front h.more text;
 })
 
-pub lacking_more : (line : ℕ) (given c : Option (List ℕ)) (expected text : List ℕ) → 0 < length text → WhereTold given c (Told (state.Lacking line) expected)
+pub lacking_more : GivenEnds → (line : ℕ) (given c : Option (List ℕ)) (expected text : List ℕ) → 0 < length text → WhereTold given c (Told (state.Lacking line) expected)
     → WhereTold given c (Told (state.Other line) (expected ++ text))
-lacking_more line given c expected text some p = WhereTold-map given c p (λ x y h. λ more full.
+lacking_more ends line given c expected text some p = WhereTold-map given c p (λ x y h. λ more full.
     let all : (expected ++ text) ++ more ≡ x ++ 10 ∷ (text ++ more) =
     append_assoc expected text more ∙ ap (λ (l : List ℕ). l ++ (text ++ more)) h.0 ∙ append_assoc x (10 ∷ []) (text ++ more) in
     let left : text ++ more ≢ [] = λ none. let size : length (text ++ more) ≡ 0 = ap (λ (l : List ℕ). length l) none in omega (arith, size, some, length-append text more) in
-    ap (λ (l : List ℕ). first_other_line l x) all ∙ given_ended x (text ++ more) 10 (subst HasNoEmptyLine all full) (λ feed. left) ∙ ap (λ (n : ℕ). Some n) (sym h.1))
+    ap (λ (l : List ℕ). first_other_line l x) all ∙ ends x (text ++ more) 10 (subst HasNoEmptyLine all full) (λ feed. left) ∙ ap (λ (n : ℕ). Some n) (sym h.1))
 
 -- the same, by the state
-pub stands_lacking : (s : State) (line tally : ℕ) (given c : Option (List ℕ)) (expected text : List ℕ) → s ≡ state.Lacking line → 0 < length text → StandsBy s tally expected given c
+pub stands_lacking : GivenEnds → (s : State) (line tally : ℕ) (given c : Option (List ℕ)) (expected text : List ℕ) → s ≡ state.Lacking line → 0 < length text → StandsBy s tally expected given c
     → StandsBy (state.Other line) tally (expected ++ text) given c
-stands_lacking s line tally given c expected text e some h = (tt, lacking_more line given c expected text some (subst (λ (t : State). StandsBy t tally expected given c) e h).1)
+stands_lacking ends s line tally given c expected text e some h = (tt, lacking_more ends line given c expected text some (subst (λ (t : State). StandsBy t tally expected given c) e h).1)
 
 pub stands_still : (s : State) (tally : ℕ) (given c : Option (List ℕ)) (expected text : List ℕ) → length text ≤ 0 → StandsBy s tally expected given c → StandsBy s tally (expected ++ text) given c
 stands_still s tally given c expected [] none h = subst (λ (l : List ℕ). StandsBy s tally l given c) (sym (append-nil expected)) h
@@ -198,31 +197,38 @@ other_found line given c expected full p = WhereTold-map given c p (λ x y h.
     subst (λ (l : List ℕ). first_other_line l x ≡ Some line) (append-nil expected) (h [] (subst HasNoEmptyLine (sym (append-nil expected)) full)))
 
 -- all was given, and more
-more_given : (expected held xs : List ℕ) → IsWhole expected → 0 < length held → first_other_line expected (expected ++ (held ++ xs)) ≡ Some (feeds expected + 1)
-more_given expected [] xs whole some = absurd (omega (arith, some))
-more_given expected (y ∷ held) xs whole some = expected_ended expected (held ++ xs) y whole
+more_given : ExpectedEnds → (expected held xs : List ℕ) → IsWhole expected → 0 < length held → first_other_line expected (expected ++ (held ++ xs)) ≡ Some (feeds expected + 1)
+more_given ends expected [] xs whole some = absurd (omega (arith, some))
+more_given ends expected (y ∷ held) xs whole some = ends expected (held ++ xs) y whole
 
-pub further_line : (given left : Option (List ℕ)) (expected held : List ℕ) → IsWhole expected → 0 < length held → Begun given (prepend_known held left) expected
+pub further_line : ExpectedEnds → (given left : Option (List ℕ)) (expected held : List ℕ) → IsWhole expected → 0 < length held → Begun given (prepend_known held left) expected
     → WhereTold given (prepend_known held left) (λ before after. first_other_line expected before ≡ Some (feeds expected + 1))
-further_line None left expected held whole some p = tt
-further_line (Some w) None expected held whole some p = p
-further_line (Some w) (Some xs) expected held whole some p = ap (first_other_line expected) p ∙ more_given expected held xs whole some
+further_line ends None left expected held whole some p = tt
+further_line ends (Some w) None expected held whole some p = p
+further_line ends (Some w) (Some xs) expected held whole some p = ap (first_other_line expected) p ∙ more_given ends expected held xs whole some
+
+-- what is known of texts with the same lines
+pub record SameLaws : Type 0 where
+  pub equal : EqualTextsHaveNoOther
+  pub lacking : LastFeedMayLack
+  pub closed : FeedsEndOpenLines
+  pub counts : WholeTextsHaveTheirFeeds
 
 -- all was given, and no more
-pub same_text : (given b c : Option (List ℕ)) (expected : List ℕ) → Begun given b expected → Filled false b c
+pub same_text : SameLaws → (given b c : Option (List ℕ)) (expected : List ℕ) → Begun given b expected → Filled false b c
     → WhereTold given c (λ before after. (first_other_line expected before ≡ None) × (after ≡ []))
-same_text given b c expected p q = WhereTold-then given b c p q (λ x y z m n.
+same_text laws given b c expected p q = WhereTold-then given b c p q (λ x y z m n.
     let same : x ≡ expected = m ∙ ap (λ (l : List ℕ). expected ++ l) (n.0 ∙ n.1 refl) ∙ append-nil expected in
-    (ap (first_other_line expected) same ∙ equal_texts expected, n.1 refl))
+    (ap (first_other_line expected) same ∙ laws.equal expected, n.1 refl))
 
 -- the last line feed alone is lacking
-pub lacking_feed : (line : ℕ) (given c : Option (List ℕ)) (expected : List ℕ) → HasNoEmptyLine expected → WhereTold given c (Told (state.Lacking line) expected)
+pub lacking_feed : SameLaws → (line : ℕ) (given c : Option (List ℕ)) (expected : List ℕ) → HasNoEmptyLine expected → WhereTold given c (Told (state.Lacking line) expected)
     → WhereTold given c (λ before after. (first_other_line expected before ≡ None) × (after ≡ []))
-lacking_feed line given c expected full p = WhereTold-map given c p (λ x y h.
-    (ap (λ (l : List ℕ). first_other_line l x) h.0 ∙ last_feed_lacks x (open_line x [] (subst HasNoEmptyLine h.0 full)), h.2))
+lacking_feed laws line given c expected full p = WhereTold-map given c p (λ x y h.
+    (ap (λ (l : List ℕ). first_other_line l x) h.0 ∙ laws.lacking x (laws.closed x [] (subst HasNoEmptyLine h.0 full)), h.2))
 
-pub line_count : (expected : List ℕ) (n : ℕ) → IsWhole expected → n ≡ feeds expected → n ≡ length (lines expected)
-line_count expected n whole e = e ∙ sym (as_many expected whole)
+pub line_count : SameLaws → (expected : List ℕ) (n : ℕ) → IsWhole expected → n ≡ feeds expected → n ≡ length (lines expected)
+line_count laws expected n whole e = e ∙ sym (laws.counts expected whole)
 
 -- ---- where a comparison stands
 
@@ -247,10 +253,10 @@ parted : (n : ℕ) (expected text rest : List ℕ) → rest ≡ drop n text → 
 parted n expected text rest e =
     append_assoc expected (take n text) rest ∙ ap (λ (l : List ℕ). expected ++ (take n text ++ l)) e ∙ ap (λ (l : List ℕ). expected ++ l) (take-append-drop n text)
 
-pub stands_ended : (s : State) (tally done : ℕ) (text rest expected : List ℕ) (given b c : Option (List ℕ)) → rest ≡ drop done text → Far tally (expected ++ take done text) given b → Filled false b c
+pub stands_ended : GivenEnds → (s : State) (tally done : ℕ) (text rest expected : List ℕ) (given b c : Option (List ℕ)) → rest ≡ drop done text → Far tally (expected ++ take done text) given b → Filled false b c
     → EndsBefore s tally rest → StandsBy s tally (expected ++ text) given c
-stands_ended s tally done text rest expected given b c e far q h =
-    subst (λ (l : List ℕ). StandsBy s tally l given c) (parted done expected text rest e) (ended_before s tally given b c (expected ++ take done text) rest far.tally_is far.begun q h)
+stands_ended ends s tally done text rest expected given b c e far q h =
+    subst (λ (l : List ℕ). StandsBy s tally l given c) (parted done expected text rest e) (ended_before ends s tally given b c (expected ++ take done text) rest far.tally_is far.begun q h)
 
 pub stands_failed : (tally done : ℕ) (text expected : List ℕ) (given b c : Option (List ℕ)) → Begun given b (expected ++ take done text) → WhereTold b c (λ before after. before ≡ after)
     → StandsBy state.Broken tally (expected ++ text) given c
@@ -265,10 +271,10 @@ far_shared n tally tally' shared rest held held' given b left far q h = record {
   begun = begun_more given b left held held' shared (take n rest) far.begun q h.taken;
 }
 
-pub stands_differs : (n tally tally' done line : ℕ) (text rest held held' expected : List ℕ) (given b left : Option (List ℕ)) → rest ≡ drop done text → Far tally (expected ++ take done text) given b
+pub stands_differs : MismatchesTell → (n tally tally' done line : ℕ) (text rest held held' expected : List ℕ) (given b left : Option (List ℕ)) → rest ≡ drop done text → Far tally (expected ++ take done text) given b
     → Filled true b (prepend_known held left) → Shares n tally tally' rest held held' → n < length rest → 0 < length held' → line ≡ tally' + 1
     → StandsBy (state.Other line) tally' (expected ++ text) given (prepend_known held' left)
-stands_differs n tally tally' done line text rest held held' expected given b left e far q h more some l =
+stands_differs tells n tally tally' done line text rest held held' expected given b left e far q h more some l =
     let shared = (expected ++ take done text) ++ take n rest in
     let now = far_shared n tally tally' (expected ++ take done text) rest held held' given b left far q h in
     let all : shared ++ drop n rest ≡ expected ++ text =
@@ -277,7 +283,7 @@ stands_differs n tally tally' done line text rest held held' expected given b le
       tt,
       subst (λ (k : ℕ). WhereTold given (prepend_known held' left) (Told (state.Other k) (expected ++ text))) is
           (subst (λ (r : List ℕ). WhereTold given (prepend_known held' left) (Told (state.Other (feeds shared + 1)) r)) all
-          (differs given left shared (drop n rest) held' (omega (arith, more, length-drop n rest)) some (h.next more) now.begun)),
+          (differs tells given left shared (drop n rest) held' (omega (arith, more, length-drop n rest)) some (h.next more) now.begun)),
     )
 
 -- one more turn of the loop
@@ -321,28 +327,28 @@ stands_whole tally done text expected given b all far =
 filled_begun : (f : Bool) (given b c : Option (List ℕ)) (expected : List ℕ) → Begun given b expected → Filled f b c → Begun given c expected
 filled_begun f given b c expected p q = WhereTold-then given b c p q (λ x y z m n. m ∙ ap (λ (l : List ℕ). expected ++ l) n.0)
 
-pub verdict_further : (tally line : ℕ) (expected held : List ℕ) (given b left : Option (List ℕ)) → IsWhole expected → Far tally expected given b → Filled true b (prepend_known held left)
+pub verdict_further : ExpectedEnds → (tally line : ℕ) (expected held : List ℕ) (given b left : Option (List ℕ)) → IsWhole expected → Far tally expected given b → Filled true b (prepend_known held left)
     → 0 < length held → line ≡ tally + 1 → VerdictGives (Ok (verdict.Differs line)) expected given (prepend_known held left)
-verdict_further tally line expected held given b left whole far q some l =
+verdict_further ends tally line expected held given b left whole far q some l =
     let is : feeds expected + 1 ≡ line = ap (λ (k : ℕ). k + 1) (sym far.tally_is) ∙ sym l in
     subst (λ (k : ℕ). WhereTold given (prepend_known held left) (λ before after. first_other_line expected before ≡ Some k)) is
-    (further_line given left expected held whole some (filled_begun true given b (prepend_known held left) expected far.begun q))
+    (further_line ends given left expected held whole some (filled_begun true given b (prepend_known held left) expected far.begun q))
 
-pub verdict_same : (tally line : ℕ) (expected : List ℕ) (given b c : Option (List ℕ)) → IsWhole expected → Far tally expected given b → Filled false b c → line ≡ tally + 1
+pub verdict_same : SameLaws → (tally line : ℕ) (expected : List ℕ) (given b c : Option (List ℕ)) → IsWhole expected → Far tally expected given b → Filled false b c → line ≡ tally + 1
     → VerdictGives (Ok (verdict.Same (line - 1))) expected given c
-verdict_same tally line expected given b c whole far q l =
+verdict_same laws tally line expected given b c whole far q l =
     let is : line - 1 ≡ tally = omega (arith, l) in
-    (line_count expected (line - 1) whole (is ∙ far.tally_is), same_text given b c expected far.begun q)
+    (line_count laws expected (line - 1) whole (is ∙ far.tally_is), same_text laws given b c expected far.begun q)
 
 pub verdict_other : (s : State) (line tally : ℕ) (expected : List ℕ) (given c : Option (List ℕ)) → s ≡ state.Other line → HasNoEmptyLine expected → StandsBy s tally expected given c
     → VerdictGives (Ok (verdict.Differs line)) expected given c
 verdict_other s line tally expected given c e full h = other_found line given c expected full (subst (λ (t : State). StandsBy t tally expected given c) e h).1
 
-pub verdict_lacking : (s : State) (line tally count : ℕ) (expected : List ℕ) (given c : Option (List ℕ)) → s ≡ state.Lacking line → IsWhole expected → HasNoEmptyLine expected
+pub verdict_lacking : SameLaws → (s : State) (line tally count : ℕ) (expected : List ℕ) (given c : Option (List ℕ)) → s ≡ state.Lacking line → IsWhole expected → HasNoEmptyLine expected
     → StandsBy s tally expected given c → count ≡ tally + 1 → VerdictGives (Ok (verdict.Same count)) expected given c
-verdict_lacking s line tally count expected given c e whole full h is =
+verdict_lacking laws s line tally count expected given c e whole full h is =
     let stands = subst (λ (t : State). StandsBy t tally expected given c) e h in
-    (line_count expected count whole (is ∙ stands.0), lacking_feed line given c expected full stands.1)
+    (line_count laws expected count whole (is ∙ stands.0), lacking_feed laws line given c expected full stands.1)
 
 pub verdict_broken : (s : State) (tally : ℕ) (failed : Failed) (expected : List ℕ) (given c : Option (List ℕ)) → s ≡ state.Broken → StandsBy s tally expected given c
     → VerdictGives (Err failed) expected given c

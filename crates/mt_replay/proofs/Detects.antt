@@ -7,14 +7,11 @@ use Rattle.mt_port.specs.declared.board.Shape.{Shape}
 use Rattle.mt_port.specs.Board.{IsWithinLimits}
 use Rattle.mt_window.specs.declared.reply.TestResult.TheVariants.{NotOk}
 use Rattle.mt_blocks.specs.declared.config.ParamSet.{ParamSet}
-use Rattle.mt_blocks.specs.Slices.{Piece, pass, from_place, piece_at, start, IsValid}
+use Rattle.mt_blocks.specs.Slices.{Piece, pass, from_place, start, IsValid}
 use Rattle.mt_blocks.specs.Groups.{ticks, group_len}
-use Rattle.mt_blocks.specs.Laws.{BlocksBegin}
+use Rattle.mt_blocks.specs.Laws.{BlocksBegin, PassesBegin}
 use Rattle.mt_blocks.specs.Accepted.{spans_of, IsAcceptedSet, set_at}
-use Rattle.mt_blocks.specs.Inner.Small.{AreSmall}
-use Rattle.mt_blocks.proofs.Passes.{from_first}
 use Rattle.mt_ram.specs.State.{Setting, RamTst, set_of}
-use Rattle.mt_ram.proofs.Sets.{accepted_spans, block_there}
 use Rattle.mt_text.specs.declared.line.Line.{Line}
 use Rattle.mt_text.specs.Accepted.{IsAccepted}
 use Rattle.mt_conf.specs.declared.config.Config.{Config}
@@ -33,8 +30,8 @@ use Rattle.mt_replay.specs.Detection.{IsCaught, IsUndisturbedPass, AreUndisturbi
 use Rattle.mt_replay.specs.Replay.{FindsFaults}
 use Rattle.mt_replay.proofs.Accepted.{small}
 use Rattle.mt_replay.proofs.Fixed.{config_accepted}
-use Rattle.mt_replay.proofs.Taken.{AreTaken, lines-taken}
-use Rattle.mt_replay.proofs.Pieces.{IsOf, pass-of, start-valid, small-from, ticks-group}
+use Rattle.mt_replay.proofs.Taken.{ReadingLaws, AreTaken, lines-taken}
+use Rattle.mt_replay.proofs.Pieces.{IsOf, block_there, pass-of, start-valid}
 use Rattle.mt_replay.proofs.Phases.{IsBehind}
 use Rattle.mt_replay.proofs.PassRows.{InSomePass}
 use Rattle.mt_replay.proofs.PassEvents.{IsTaken, Caught}
@@ -44,10 +41,13 @@ use Rattle.mt_replay.proofs.SoundBoards.{BoardLaws, AreSoundIn, IsSoundMachine, 
 use Rattle.mt_replay.proofs.PassLines.{Hunts, Hunt}
 use Rattle.mt_replay.proofs.PassSteps.{step_pass}
 
--- what is known of boards and of passes
+-- what is known of boards, of passes, of configurations and of lines
 pub record Laws : Type 0 where
   pub board : BoardLaws
   pub begin : BlocksBegin
+  pub first : PassesBegin
+  pub config : AcceptedIsTaken
+  pub reading : ReadingLaws
 
 -- ---- lines
 
@@ -78,10 +78,8 @@ found shape fault set cells p laws caught low r i = of i.pass.phase
     of (inr (contains, none)) =
         let K = set.atomic in
         let spans = spans_of set.blocks in
-        let goes = laws.go K spans i.at (accepted_spans shape set caught.limits caught.accepted) i.pass.valid in
         let one : ticks cells (from_place K spans i.at) ≡ suc (ticks cells (drop (group_len cells (from_place K spans i.at)) (from_place K spans i.at))) =
-        subst (λ (l : List Piece). ticks cells l ≡ suc (ticks cells (drop (group_len cells l) l))) (sym goes.pass)
-        (ticks-group cells (piece_at K spans i.at) _ (subst (AreSmall cells) goes.pass (small-from K cells spans i.at low))) in
+        laws.group K cells spans i.at (laws.cut shape set caught.limits caught.accepted) i.pass.valid low in
         absurd (omega (arith, none, one))
 
 -- a caught slice is one of an accepted set
@@ -102,7 +100,7 @@ whole_pass laws shape z limits all fault p m lines ok sound is u =
     let K = set.atomic in
     let spans = spans_of set.blocks in
     let caught = caught_in shape z fault r p limits all sound.ram.setting is in
-    let first : from_place K spans start ≡ pass K spans = from_first K spans 0 caught.accepted.atomic_some in
+    let first : from_place K spans start ≡ pass K spans = (laws.first K spans (laws.board.pass.cut shape set caught.limits caught.accepted)).0 in
     let before : Contains (from_place K spans start) p × (ticks r.cells (from_place K spans start) ≤ ticks r.cells (pass K spans)) =
     subst (λ (l : List Piece). Contains l p × (ticks r.cells l ≤ ticks r.cells (pass K spans))) (sym first) (is.slice, omega arith) in
     let valid : IsValid K spans start = start-valid K spans caught.accepted.atomic_some (omega (arith, caught.stands.valid.block)) in
@@ -136,7 +134,7 @@ last_step m (line ∷ next ∷ more) behind some =
     record { last = rest.last; is = ap (λ (k : ℕ). slice_get (played m ((line ∷ next ∷ more) ++ behind)).steps k) n ∙ rest.is; after = rest.after }
 
 -- no tick counts where there is no line
-some_line : (shape : Shape) (z : Setting) (fault : Fault) (p : Piece) (m : Machine) (lines : List Line) → PassLaws → Caught shape fault (set_of m.modules.ram) p → (set_of m.modules.ram).atomic ≤ m.modules.ram.cells
+some_line : (shape : Shape) (z : Setting) (fault : Fault) (p : Piece) (m : Machine) (lines : List Line) → Laws → Caught shape fault (set_of m.modules.ram) p → (set_of m.modules.ram).atomic ≤ m.modules.ram.cells
     → IsUndisturbedPass fault m lines → 0 < length lines
 some_line shape z fault p m (line ∷ lines) laws caught low u = omega arith
 some_line shape z fault p m [] laws caught low u =
@@ -144,11 +142,9 @@ some_line shape z fault p m [] laws caught low u =
     let K = (set_of r).atomic in
     let spans = spans_of (set_of r).blocks in
     let valid : IsValid K spans start = start-valid K spans caught.accepted.atomic_some (omega (arith, caught.stands.valid.block)) in
-    let goes = laws.go K spans start (accepted_spans shape (set_of r) caught.limits caught.accepted) valid in
-    let first : pass K spans ≡ piece_at K spans start ∷ _ = sym (from_first K spans 0 caught.accepted.atomic_some) ∙ goes.pass in
+    let cut = laws.board.pass.cut shape (set_of r) caught.limits caught.accepted in
     let one : ticks r.cells (pass K spans) ≡ suc (ticks r.cells (drop (group_len r.cells (pass K spans)) (pass K spans))) =
-    subst (λ (l : List Piece). ticks r.cells l ≡ suc (ticks r.cells (drop (group_len r.cells l) l))) (sym first)
-    (ticks-group r.cells (piece_at K spans start) _ (subst (AreSmall r.cells) goes.pass (small-from K r.cells spans start low))) in
+    subst (λ (l : List Piece). ticks r.cells l ≡ suc (ticks r.cells (drop (group_len r.cells l) l))) (laws.first K spans cut).0 (laws.board.pass.group K r.cells spans start cut valid low) in
     absurd (omega (arith, u.whole, one))
 
 -- ---- a job
@@ -169,22 +165,22 @@ length-behind : (a b : List Line) → 0 < length b → 0 < length (a ++ b)
 length-behind [] b some = some
 length-behind (x ∷ a) b some = omega arith
 
-pub passes_find_faults : Laws → AcceptedIsTaken → (defect : Option Fault) → PassesFindFaults defect
+pub passes_find_faults : Laws → (defect : Option Fault) → PassesFindFaults defect
 unfolding outcome
-passes_find_faults laws accepted defect ending bytes text script c job is short before lines behind split fault p catch u =
+passes_find_faults laws defect ending bytes text script c job is short before lines behind split fault p catch u =
     let m = started c defect in
-    let config = config_accepted accepted text c is in
+    let config = config_accepted laws.config text c is in
     let shape = c.shape in
     let z = m.modules.ram.setting in
     let sets = config.ram_tst.sets in
     let all : List Line = (script_from shape ending 1 script).lines in
-    let ok : All (IsAccepted shape) ((before ++ lines) ++ behind) = subst (All (IsAccepted shape)) split (accepted_lines shape 1 all (lines-taken shape ending 1 script.lines script.rest)) in
+    let ok : All (IsAccepted shape) ((before ++ lines) ++ behind) = subst (All (IsAccepted shape)) split (accepted_lines shape 1 all (lines-taken laws.reading shape ending 1 script.lines script.rest)) in
     let ours = All-front (IsAccepted shape) (before ++ lines) behind ok in
     let middle = (played m before).after in
     let sound = played-sound laws.board shape z sets m before (All-front (IsAccepted shape) before lines ours) (started_sound laws.board c defect config) in
     let caught = caught_in shape z fault middle.modules.ram p config.limits sets sound.ram.setting catch in
     let result = whole_pass laws shape z config.limits sets fault p middle lines (All-behind (IsAccepted shape) before lines ours) sound catch u in
-    let some = some_line shape z fault p middle lines laws.board.pass caught sound.ram.low u in
+    let some = some_line shape z fault p middle lines laws caught sound.ram.low u in
     let last = last_step m (before ++ lines) behind (length-behind before lines some) in
     let steps = λ (o : Outcome). o.steps in
     let same : (outcome forms.Run ending defect bytes).steps ≡ (played m ((before ++ lines) ++ behind)).steps =

@@ -9,11 +9,9 @@ use Rattle.mt_port.specs.declared.board.Shape.{Shape}
 use Rattle.mt_port.specs.Board.{IsWithinLimits}
 use Rattle.mt_text.specs.declared.line.Line.{Line}
 use Rattle.mt_text.specs.declared.line.LineRefusal.{LineRefusal}
-use Rattle.mt_text.specs.Lines.{line_of}
+use Rattle.mt_text.specs.Lines.{line_of, Spells}
 use Rattle.mt_text.specs.Accepted.{IsAccepted}
 use Rattle.mt_text.specs.Canonical.{canonical}
-use Rattle.mt_text.proofs.Readings.{comes_from_spells}
-use Rattle.mt_text.proofs.RoundTrip.{canonical_spells}
 use Rattle.mt_conf.specs.declared.config.Config.{Config}
 use Rattle.mt_conf.specs.declared.config.ConfigRefusal.{ConfigRefusal}
 use Rattle.mt_conf.specs.Outcome.{document, first_broken, read_of, outcome as config_of, judged as config_judged, config_of as config_in}
@@ -32,7 +30,7 @@ use Rattle.mt_replay.specs.Fixed.{formatted, migrated_outcome, HasShortLines, Fo
 use Rattle.mt_replay.proofs.Lines.{cut-line}
 use Rattle.mt_replay.proofs.Feedless.{no_feed, canonical_feedless}
 use Rattle.mt_replay.proofs.Openings.{opening_parts}
-use Rattle.mt_replay.proofs.Taken.{AreTaken, lines-taken, lines-count}
+use Rattle.mt_replay.proofs.Taken.{ReadingLaws, AreTaken, lines-taken, lines-count}
 use Rattle.mt_replay.proofs.Accepted.{short_is, is_short, done_is, small}
 
 -- ---- the configuration
@@ -51,6 +49,12 @@ config_accepted law bytes c h = read_accepted law (document bytes) c h
 
 -- ---- the script
 
+-- what is known of configurations and of lines
+pub record FormLaws : Type 0 where
+  pub config : AcceptedIsTaken
+  pub reading : ReadingLaws
+  pub canonical : (shape : Shape) (line : Line) → IsWithinLimits shape → IsAccepted shape line → Spells shape (canonical shape.width line) line
+
 abbrev IsShort : List ℕ → Type 0
 IsShort line = length line ≤ 1024
 
@@ -66,40 +70,40 @@ read_line shape n text line more early short is =
     ∙ ap (λ (r : Result Line LineRefusal). taken r n more) is
 
 -- the canonical text of a line is read as that line
-read_again : (shape : Shape) (line : Line) → IsWithinLimits shape → IsAccepted shape line → line_of shape (canonical shape.width line) ≡ Ok line
-read_again shape line limits ok = comes_from_spells shape (canonical shape.width line) line (canonical_spells shape line limits ok)
+read_again : FormLaws → (shape : Shape) (line : Line) → IsWithinLimits shape → IsAccepted shape line → line_of shape (canonical shape.width line) ≡ Ok line
+read_again laws shape line limits ok = (laws.reading.spelled shape (canonical shape.width line) line).1 (laws.canonical shape line limits ok)
 
 -- the canonical text of lines is read as these lines
-pub lines_again : (shape : Shape) (n : ℕ) (lines : List Line) → 1 ≤ n → IsWithinLimits shape → AreTaken shape n lines → HasShortLines (canonical_lines shape lines)
+pub lines_again : FormLaws → (shape : Shape) (n : ℕ) (lines : List Line) → 1 ≤ n → IsWithinLimits shape → AreTaken shape n lines → HasShortLines (canonical_lines shape lines)
     → script_from shape Finished n (cut (canonical_lines shape lines)) ≡ record { lines = lines; end = end.Whole ((n - 1) + length lines) }
-lines_again shape n [] some limits h short = let e : n - 1 ≡ (n - 1) + 0 = omega arith in ap (λ (k : ℕ). ended (end.Whole k)) e
-lines_again shape n (line ∷ more) some limits h short =
+lines_again laws shape n [] some limits h short = let e : n - 1 ≡ (n - 1) + 0 = omega arith in ap (λ (k : ℕ). ended (end.Whole k)) e
+lines_again laws shape n (line ∷ more) some limits h short =
     let text = canonical shape.width line in
     let behind = canonical_lines shape more in
     let rest = cut behind in
     let cuts : cut ((text ++ 10 ∷ []) ++ behind) ≡ led text rest = ap cut (append_assoc text (10 ∷ []) behind) ∙ cut-line text behind (no_feed text (canonical_feedless shape.width line)) in
     let lines : All IsShort (text ∷ rest.lines) = subst (λ (k : Cut). All IsShort k.lines) cuts short in
-    let again = lines_again shape (n + 1) more (omega arith) limits h.more (All-tail IsShort text rest.lines lines) in
+    let again = lines_again laws shape (n + 1) more (omega arith) limits h.more (All-tail IsShort text rest.lines lines) in
     let count : ((n + 1) - 1) + length more ≡ (n - 1) + length (line ∷ more) = omega arith in
     ap (script_from shape Finished n) cuts
-    ∙ read_line shape n text line (script_from shape Finished (n + 1) rest) h.early (not_long (length text) (All-head IsShort text rest.lines lines)) (read_again shape line limits h.accepted)
+    ∙ read_line shape n text line (script_from shape Finished (n + 1) rest) h.early (not_long (length text) (All-head IsShort text rest.lines lines)) (read_again laws shape line limits h.accepted)
     ∙ ap (led_by (line ∷ [])) again
     ∙ ap (λ (k : ℕ). let s : Script = record { lines = line ∷ more; end = end.Whole k } in s) count
 
 -- a whole script is read back
-pub script_again : (shape : Shape) (script : Cut) (count : ℕ) → IsWithinLimits shape → (script_from shape Finished 1 script).end ≡ end.Whole count
+pub script_again : FormLaws → (shape : Shape) (script : Cut) (count : ℕ) → IsWithinLimits shape → (script_from shape Finished 1 script).end ≡ end.Whole count
     → HasShortLines (canonical_lines shape (script_from shape Finished 1 script).lines)
     → script_from shape Finished 1 (cut (canonical_lines shape (script_from shape Finished 1 script).lines)) ≡ script_from shape Finished 1 script
-script_again shape script count limits whole short =
+script_again laws shape script count limits whole short =
     let s = script_from shape Finished 1 script in
     let counted = lines-count shape 1 script.lines script.rest (omega arith) count whole in
-    lines_again shape 1 s.lines (omega arith) limits (lines-taken shape Finished 1 script.lines script.rest) short
+    lines_again laws shape 1 s.lines (omega arith) limits (lines-taken laws.reading shape Finished 1 script.lines script.rest) short
     ∙ ap (λ (e : End). let r : Script = record { lines = s.lines; end = e } in r) (ap (λ (k : ℕ). end.Whole k) (sym counted) ∙ sym whole)
 
 -- ---- the job
 
-pub formatting_keeps_outcomes : AcceptedIsTaken → FormattingKeepsOutcomes
-formatting_keeps_outcomes law form defect bytes config script c job is done again fits short =
+pub formatting_keeps_outcomes : FormLaws → FormattingKeepsOutcomes
+formatting_keeps_outcomes laws form defect bytes config script c job is done again fits short =
     let s = script_from c.shape Finished 1 script in
     let m = started c defect in
     let within = is_short forms.Format defect bytes config script job done in
@@ -110,7 +114,7 @@ formatting_keeps_outcomes law form defect bytes config script c job is done agai
     let written : (formatted defect bytes).text ≡ opening ++ text = ap (λ (o : Outcome). o.text) first ∙ ap (λ (e : End). (opening ++ text) ++ end_text forms.Format c e) whole.1 ∙ append-nil (opening ++ text) in
     ap (outcome form Finished defect) written
     ∙ short_is form defect (opening ++ text) (config_text c) (cut text) c (opening_parts c text) (small (length (config_text c)) fits) again
-    ∙ ap (scripted form c m) (script_again c.shape script whole.0 (config_accepted law config c is).limits whole.1 short)
+    ∙ ap (scripted form c m) (script_again laws c.shape script whole.0 (config_accepted laws.config config c is).limits whole.1 short)
     ∙ sym (short_is form defect bytes config script c job within is)
 
 -- but for canonical form, the version is told nowhere
@@ -121,8 +125,8 @@ same_script forms.Format other c defect s = absurd (other refl)
 same_script forms.Migrate other c defect s = refl
 same_script (forms.Cut ask) other c defect s = refl
 
-pub migrating_keeps_outcomes : AcceptedIsTaken → MigratingKeepsOutcomes
-migrating_keeps_outcomes law form defect bytes config script c other job is done again fits short =
+pub migrating_keeps_outcomes : FormLaws → MigratingKeepsOutcomes
+migrating_keeps_outcomes laws form defect bytes config script c other job is done again fits short =
     let s = script_from c.shape Finished 1 script in
     let m = started c defect in
     let within = is_short forms.Migrate defect bytes config script job done in
@@ -134,5 +138,5 @@ migrating_keeps_outcomes law form defect bytes config script c other job is done
     ap (outcome form Finished defect) written
     ∙ short_is form defect (opening ++ text) (config_text (migrated c)) (cut text) (migrated c) (opening_parts (migrated c) text) (small (length (config_text (migrated c))) fits) again
     ∙ same_script form other c defect (script_from c.shape Finished 1 (cut text))
-    ∙ ap (scripted form c m) (script_again c.shape script whole.0 (config_accepted law config c is).limits whole.1 short)
+    ∙ ap (scripted form c m) (script_again laws c.shape script whole.0 (config_accepted laws.config config c is).limits whole.1 short)
     ∙ sym (short_is form defect bytes config script c job within is)

@@ -39,13 +39,14 @@ use Rattle.mt_replay.specs.Outcome.{played, play_of, said, read_fault_text, bad_
 use Rattle.mt_replay.specs.Latency.{ServesInTime}
 use Rattle.mt_replay.specs.Soak.{soaked}
 use Rattle.mt_replay.specs.Replay.{AreServedInTime}
-use Rattle.mt_replay.proofs.Taken.{AreTaken, lines-taken}
-use Rattle.mt_replay.proofs.Soaks.{accepted_script}
+use Rattle.mt_replay.proofs.Taken.{ReadingLaws, AreTaken, lines-taken}
 
--- what is known of the running calls
+-- what is known of the running calls, and of lines that are read and that are generated
 pub record RunningCalls : Type 0 where
   pub ram : (call : Running) → CallServes (events_of call)
   pub fls : (call : FlsRunning) → CallServes (fls_events_of call)
+  pub reading : ReadingLaws
+  pub script : (number : ℕ) → All (IsAccepted job_shape) (script number)
 
 -- one reply, which waits for nothing
 replied-short : (m : Machine) (reply : Reply) → ServesInTime (replied m reply)
@@ -113,7 +114,7 @@ play-short calls (forms.Cut ask) shape n m lines h = All-none
 configured-short : RunningCalls → (form : Form) (ending : Ending) (defect : Option Fault) (r : Result Config ConfigRefusal) (script : Cut) → All ServesInTime (configured form ending defect r script).steps
 configured-short calls form ending defect (Err e) script = All-none
 configured-short calls form ending defect (Ok c) script =
-    play-short calls form c.shape 1 (started c defect) (script_from c.shape ending 1 script).lines (lines-taken c.shape ending 1 script.lines script.rest)
+    play-short calls form c.shape 1 (started c defect) (script_from c.shape ending 1 script).lines (lines-taken calls.reading c.shape ending 1 script.lines script.rest)
 
 job-short : RunningCalls → (form : Form) (ending : Ending) (defect : Option Fault) (job : Job) → All ServesInTime (by_job form ending defect job).steps
 job-short calls form ending defect (Parted config script) = of (nat_lt 65536 (length config))
@@ -145,4 +146,4 @@ are_served_in_time calls None defect = tt
 are_served_in_time calls (Some (asks.Job form)) defect = λ ending bytes. job-short calls form ending defect (job_of ending bytes)
 are_served_in_time calls (Some asks.Locate) defect = tt
 are_served_in_time calls (Some asks.Verify) defect = tt
-are_served_in_time calls (Some (asks.Soak number)) defect = accepted-short calls (started job_config defect) (script number) (accepted_script number)
+are_served_in_time calls (Some (asks.Soak number)) defect = accepted-short calls (started job_config defect) (script number) (calls.script number)

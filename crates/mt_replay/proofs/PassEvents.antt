@@ -25,8 +25,8 @@ use Rattle.mt_ram.specs.declared.state.State.TheVariants.{Uninit, Stopped, Runni
 use Rattle.mt_ram.specs.State.{RamTst, set_of, spans_in}
 use Rattle.mt_ram.specs.Table.{RamCell, MainFunction, RunFullTest, RunPartialTest, cell, testing, in_state}
 use Rattle.mt_ram.specs.Event.{job_in, job_of, of_pass, of_test, ticking, full_test, partial_test}
-use Rattle.mt_ram.proofs.Sets.{sound_job, block_there}
-use Rattle.mt_replay.proofs.Pieces.{IsOf, sound_slice, from-of, pass-of, pieces-of}
+use Rattle.mt_ram.specs.Inner.Sets.{SlicesAreSound}
+use Rattle.mt_replay.proofs.Pieces.{IsOf, block_there, from-of, pass-of, pieces-of}
 use Rattle.mt_replay.proofs.Scenes.{Handlers, HasBoard}
 use Rattle.mt_replay.proofs.SceneEvents.{Attempts, Enters}
 use Rattle.mt_replay.proofs.PassRows.{IsOn, row-on}
@@ -41,31 +41,39 @@ IsSlice set x = IsOf set.atomic (spans_of set.blocks) x
 
 -- ---- attempts
 
+-- what is known of attempts
+pub record AttemptLaws : Type 0 where
+  pub detect : AttemptsDetect
+  pub stay : AttemptsStaySound
+  pub sound : SlicesAreSound
+
 accepted : (shape : Shape) (set : ParamSet) (x : Piece) → IsTaken shape set → IsSlice set x → IsAcceptedSet shape set
 accepted shape set x taken at = let there = block_there set x.place at.valid in taken.accepted (omega (arith, there))
 
 -- the job and the slice of an attempt are sound
-job_sound : (h : Handlers) (set : ParamSet) (cells : ℕ) (r : RamTst) (x : Piece) (b : Board) → IsTaken h.shape set → IsOn set cells r → IsSlice set x → HasBoard h b → IsSoundJob b.shape.width (job_of r x)
-job_sound h set cells r x b taken on at board =
+job_sound : AttemptLaws → (h : Handlers) (set : ParamSet) (cells : ℕ) (r : RamTst) (x : Piece) (b : Board) → IsTaken h.shape set → IsOn set cells r → IsSlice set x → HasBoard h b → IsSoundJob b.shape.width (job_of r x)
+job_sound laws h set cells r x b taken on at board =
     subst (λ (s : ParamSet). IsSoundJob b.shape.width (job_in s x.place.block)) (sym on.same)
-    (subst (λ (z : Shape). IsSoundJob z.width (job_in set x.place.block)) (sym board.shape) (sound_job h.shape set x.place (accepted h.shape set x taken at) at.valid))
+    (subst (λ (z : Shape). IsSoundJob z.width (job_in set x.place.block)) (sym board.shape) (laws.sound h.shape set x.place (accepted h.shape set x taken at) at.valid).job)
 
-slice_sound : (h : Handlers) (set : ParamSet) (x : Piece) (b : Board) → IsTaken h.shape set → IsSlice set x → HasBoard h b → IsSoundSlice b.shape.ram x.slice
-slice_sound h set x b taken at board = subst (λ (z : Shape). IsSoundSlice z.ram x.slice) (sym board.shape) (sound_slice h.shape set x (accepted h.shape set x taken at) at)
+slice_sound : AttemptLaws → (h : Handlers) (set : ParamSet) (x : Piece) (b : Board) → IsTaken h.shape set → IsSlice set x → HasBoard h b → IsSoundSlice b.shape.ram x.slice
+slice_sound laws h set x b taken at board =
+    subst (λ (z : Shape). IsSoundSlice z.ram x.slice) (sym board.shape)
+    (subst (λ (y : Piece). IsSoundSlice h.shape.ram y.slice) (sym at.is) (laws.sound h.shape set x.place (accepted h.shape set x taken at) at.valid).slice)
 
-attempt_sound : AttemptsStaySound → (h : Handlers) (set : ParamSet) (cells : ℕ) → IsTaken h.shape set → (may : Bool) (r : RamTst) (x : Piece) (b : Board) → IsOn set cells r → IsSlice set x → HasBoard h b
+attempt_sound : AttemptLaws → (h : Handlers) (set : ParamSet) (cells : ℕ) → IsTaken h.shape set → (may : Bool) (r : RamTst) (x : Piece) (b : Board) → IsOn set cells r → IsSlice set x → HasBoard h b
     → HasSoundWords (record b { words = attempt_words may b (job_of r x) x.slice })
-attempt_sound stay h set cells taken may r x b on at board = stay may b (job_of r x) x.slice board.sound (job_sound h set cells r x b taken on at board) (slice_sound h set x b taken at board)
+attempt_sound laws h set cells taken may r x b on at board = laws.stay may b (job_of r x) x.slice board.sound (job_sound laws h set cells r x b taken on at board) (slice_sound laws h set x b taken at board)
 
-pub pass_attempts : AttemptsStaySound → (h : Handlers) (set : ParamSet) (cells : ℕ) → IsTaken h.shape set → Attempts h of_pass (IsOn set cells) (IsSlice set)
-pass_attempts stay h set cells taken = record {
-  words = attempt_sound stay h set cells taken;
+pub pass_attempts : AttemptLaws → (h : Handlers) (set : ParamSet) (cells : ℕ) → IsTaken h.shape set → Attempts h of_pass (IsOn set cells) (IsSlice set)
+pass_attempts laws h set cells taken = record {
+  words = attempt_sound laws h set cells taken;
   taken = λ r x v failed on. record { same = on.same; many = on.many; results = length-set r.results x.place.block _ ∙ on.results };
 }
 
-pub test_attempts : AttemptsStaySound → (h : Handlers) (set : ParamSet) (cells : ℕ) → IsTaken h.shape set → Attempts h of_test (IsOn set cells) (IsSlice set)
-test_attempts stay h set cells taken = record {
-  words = attempt_sound stay h set cells taken;
+pub test_attempts : AttemptLaws → (h : Handlers) (set : ParamSet) (cells : ℕ) → IsTaken h.shape set → Attempts h of_test (IsOn set cells) (IsSlice set)
+test_attempts laws h set cells taken = record {
+  words = attempt_sound laws h set cells taken;
   taken = λ r x v failed on. record { same = on.same; many = on.many; results = length-set r.results x.place.block _ ∙ on.results };
 }
 
@@ -81,14 +89,14 @@ pub caught_taken : (shape : Shape) (fault : Fault) (set : ParamSet) (p : Piece) 
 caught_taken shape fault set p caught = record { some = caught.accepted.atomic_some; accepted = λ h. caught.accepted }
 
 -- an attempt at that slice that comes to a verdict fails
-pub detects : AttemptsDetect → (h : Handlers) (fault : Fault) (set : ParamSet) (cells : ℕ) (p : Piece) → Caught h.shape fault set p → h.fault ≡ Some fault → (may : Bool) (r : RamTst) (x : Piece) (b : Board) (v : Verdict)
+pub detects : AttemptLaws → (h : Handlers) (fault : Fault) (set : ParamSet) (cells : ℕ) (p : Piece) → Caught h.shape fault set p → h.fault ≡ Some fault → (may : Bool) (r : RamTst) (x : Piece) (b : Board) (v : Verdict)
     → IsOn set cells r → HasBoard h b → x ≡ p → attempt_verdict may b (job_of r x) x.slice ≡ Some v → v ≡ Fail
-detects detect h fault set cells p caught present may r x b v on board here e =
+detects laws h fault set cells p caught present may r x b v on board here e =
     let taken = caught_taken h.shape fault set p caught in
     let at : IsSlice set x = subst (IsSlice set) (sym here) caught.stands in
     let tabled : IsTabled (set_of r).alg (class_of fault) = subst (λ (s : ParamSet). IsTabled s.alg (class_of fault)) (sym on.same) caught.tabled in
     let inside : IsInside fault x.slice.first x.slice.n = subst (λ (y : Piece). IsInside fault y.slice.first y.slice.n) (sym here) caught.inside in
-    detect may b (job_of r x) x.slice fault v board.sound (board.fault ∙ present) (job_sound h set cells r x b taken on at board) (slice_sound h set x b taken at board) tabled inside e
+    laws.detect may b (job_of r x) x.slice fault v board.sound (board.fault ∙ present) (job_sound laws h set cells r x b taken on at board) (slice_sound laws h set x b taken at board) tabled inside e
 
 -- ---- what is tested
 
@@ -177,27 +185,27 @@ part_keeps r block (Partial back) = same_set
 
 -- ---- the running calls
 
-pub tick_enters : AttemptsStaySound → (h : Handlers) (set : ParamSet) (cells : ℕ) → IsTaken h.shape set → Enters h ticking (IsOn set cells) (IsSlice set)
-tick_enters stay h set cells taken = record {
-  attempts = pass_attempts stay h set cells taken;
+pub tick_enters : AttemptLaws → (h : Handlers) (set : ParamSet) (cells : ℕ) → IsTaken h.shape set → Enters h ticking (IsOn set cells) (IsSlice set)
+tick_enters laws h set cells taken = record {
+  attempts = pass_attempts laws h set cells taken;
   row = λ r call on. row-on set cells r call on;
   work = λ r on. of_set set cells h.shape r (work_in (cell r MainFunction r.state)) taken on (tick_work r r.state);
   inside = λ r on. (tick_keeps r r.state set cells r on).0;
   back = λ o r on. (tick_keeps o o.state set cells r on).1;
 }
 
-pub full_enters : AttemptsStaySound → (h : Handlers) (set : ParamSet) (cells : ℕ) → IsTaken h.shape set → Enters h full_test (IsOn set cells) (IsSlice set)
-full_enters stay h set cells taken = record {
-  attempts = test_attempts stay h set cells taken;
+pub full_enters : AttemptLaws → (h : Handlers) (set : ParamSet) (cells : ℕ) → IsTaken h.shape set → Enters h full_test (IsOn set cells) (IsSlice set)
+full_enters laws h set cells taken = record {
+  attempts = test_attempts laws h set cells taken;
   row = λ r call on. row-on set cells r call on;
   work = λ r on. of_set set cells h.shape r (work_in (cell r RunFullTest r.state)) taken on (full_work r r.state);
   inside = λ r on. (full_keeps r r.state set cells r on).0;
   back = λ o r on. (full_keeps o o.state set cells r on).1;
 }
 
-pub part_enters : AttemptsStaySound → (h : Handlers) (block : ℕ) (set : ParamSet) (cells : ℕ) → IsTaken h.shape set → Enters h (partial_test block) (IsOn set cells) (IsSlice set)
-part_enters stay h block set cells taken = record {
-  attempts = test_attempts stay h set cells taken;
+pub part_enters : AttemptLaws → (h : Handlers) (block : ℕ) (set : ParamSet) (cells : ℕ) → IsTaken h.shape set → Enters h (partial_test block) (IsOn set cells) (IsSlice set)
+part_enters laws h block set cells taken = record {
+  attempts = test_attempts laws h set cells taken;
   row = λ r call on. row-on set cells r call on;
   work = λ r on. of_set set cells h.shape r (work_in (cell r (RunPartialTest block) r.state)) taken on (part_work r block r.state);
   inside = λ r on. (part_keeps r block r.state set cells r on).0;

@@ -28,7 +28,6 @@ use Rattle.mt_ram.specs.Results.{failed_after}
 use Rattle.mt_ram.specs.Moves.{row-moves}
 use Rattle.mt_ram.specs.Table.{RamCell, RunFullTest, RunPartialTest, cell, testing, in_state, ram_table}
 use Rattle.mt_ram.specs.Event.{job_of, with_result, of_test, full_test, partial_test}
-use Rattle.mt_ram.proofs.Sets.{accepted_spans}
 use Rattle.mt_replay.proofs.Pieces.{pieces-of}
 use Rattle.mt_replay.proofs.Phases.{IsBehind}
 use Rattle.mt_replay.proofs.Scenes.{Handlers, HasBoard, Rows, Stands}
@@ -76,11 +75,11 @@ part_slice laws h fault set cells p caught present z Before x more may r failed 
         let K = set.atomic in
         let spans = spans_of set.blocks in
         let valid : IsValid K spans y = subst (λ (q : Option Position). IfSome q (IsValid K spans)) here a.valid in
-        let goes = laws.go K spans y (accepted_spans h.shape set caught.limits caught.accepted) valid in
+        let goes = laws.go K spans y (laws.cut h.shape set caught.limits caught.accepted) valid in
         let whole : x ∷ more ≡ piece_at K spans y ∷ test_rest false K spans (next_in false K spans y) = a.split ∙ ap (λ (q : Option Position). test_rest false K spans q) here ∙ goes.test false in
         let head : x ≡ piece_at K spans y = cc in
         let tail : more ≡ test_rest false K spans (next_in false K spans y) = cc in
-        let fails : piece_at K spans y ≡ p → v ≡ Fail = λ is. detects laws.detect h fault set cells p caught present may r x b v on board (head ∙ is) e in
+        let fails : piece_at K spans y ≡ p → v ≡ Fail = λ is. detects laws.attempts h fault set cells p caught present may r x b v on board (head ∙ is) e in
         let next : AtPart set p z Before more (with_result r (piece_at K spans y) v failed) (failed_after v failed (piece_at K spans y).last) = record {
           place = next_in false K spans y;
           split = tail;
@@ -139,7 +138,7 @@ block_test laws begin h fault set cells left p caught present bad block there o 
     let z : Suspension = record { at = x; failed = r.failed } in
     let L = pieces K block (span_at spans block) in
     let many : block < length spans = omega (arith, there, length-map set.blocks (λ b. b.span)) in
-    let begins = begin K spans block (accepted_spans h.shape set caught.limits caught.accepted) many in
+    let begins = begin K spans block (laws.cut h.shape set caught.limits caught.accepted) many in
     let Before = Contains (from_place K spans x) p × (ticks cells (from_place K spans x) ≤ left) in
     let inside = in_state (Partial (Some x)) r in
     let rows : (l : List Piece) (failed : Bool) → Rows h ram_table (IsOn set cells) (λ q. AtPart set p z Before l q failed) =
@@ -155,7 +154,7 @@ block_test laws begin h fault set cells left p caught present bad block there o 
     let start : Walks h (IsOn set cells) (λ q failed. AtPart set p z Before L q failed) (started false (scene o.board inside o.log)) =
     with_callee h (IsOn set cells) (InSomePass set p cells left) (λ q. AtPart set p z Before L q false) o inside (λ on. record { same = on.same; many = on.many; results = on.results }) (λ q. first) w in
     let walk = slices-walk laws.memory h of_test (IsOn set cells) (IsSlice set) (λ (l : List Piece) (q : RamTst) (failed : Bool). AtPart set p z Before l q failed)
-    (test_attempts laws.stay h set cells (caught_taken h.shape fault set p caught)) rows (λ y l is. part_passes laws h fault set cells p caught present z Before y l)
+    (test_attempts laws.attempts h set cells (caught_taken h.shape fault set p caught)) rows (λ y l is. part_passes laws h fault set cells p caught present z Before y l)
     L (started false (scene o.board inside o.log)) (pieces-of K spans block caught.accepted.atomic_some many) start in
     let end = slices of_test L (started false (scene o.board inside o.log)) in
     with_callee h (IsOn set cells) (λ q. AtPart set p z Before [] q end.failed) (InSomePass set p cells left) end.scene (in_state (Suspended x) end.scene.callee)
@@ -201,7 +200,7 @@ part_middle laws begin h fault set cells left p caught present bad block o w = o
     of (inl z) =
         let end = test_scene o (cell o.callee (RunPartialTest block) o.callee.state) in
         weakened h (IsOn set cells) (λ r. ⊥) (InSomePass set p cells left) end (λ q. absurd q)
-        (any-middle laws.memory h (partial_test block) (IsOn set cells) (λ r. ⊥) (IsSlice set) ⊥ (part_enters laws.stay h block set cells (caught_taken h.shape fault set p caught)) o (λ q. q) z)
+        (any-middle laws.memory h (partial_test block) (IsOn set cells) (λ r. ⊥) (IsSlice set) ⊥ (part_enters laws.attempts h block set cells (caught_taken h.shape fault set p caught)) o (λ q. q) z)
     of (inr i) = by_state i i.pass.state
 
 -- a full test is refused in a pass
@@ -218,5 +217,5 @@ full_middle laws h fault set cells left p caught o w = of (spoiled_or h (IsOn se
     of (inl z) =
         let end = test_scene o (cell o.callee RunFullTest o.callee.state) in
         weakened h (IsOn set cells) (λ r. ⊥) (InSomePass set p cells left) end (λ q. absurd q)
-        (any-middle laws.memory h full_test (IsOn set cells) (λ r. ⊥) (IsSlice set) ⊥ (full_enters laws.stay h set cells (caught_taken h.shape fault set p caught)) o (λ q. q) z)
+        (any-middle laws.memory h full_test (IsOn set cells) (λ r. ⊥) (IsSlice set) ⊥ (full_enters laws.attempts h set cells (caught_taken h.shape fault set p caught)) o (λ q. q) z)
     of (inr i) = by_state i i.pass.state

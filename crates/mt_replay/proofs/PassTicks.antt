@@ -9,7 +9,7 @@ use Rattle.mt_port.specs.Board.{Board}
 use Rattle.mt_seq.specs.declared.sequence.Verdict.{Verdict}
 use Rattle.mt_seq.specs.declared.sequence.Verdict.TheVariants.{Fail}
 use Rattle.mt_seq.specs.Attempts.{attempt_verdict}
-use Rattle.mt_cover.specs.Detection.{AttemptsDetect, WholeAttemptsEnd, AttemptsStaySound}
+use Rattle.mt_cover.specs.Detection.{WholeAttemptsEnd}
 use Rattle.mt_window.specs.declared.reply.Reply.TheVariants.{Done}
 use Rattle.mt_window.specs.declared.reply.TestResult.{TestResult}
 use Rattle.mt_window.specs.Serving.{Scene, scene}
@@ -29,22 +29,23 @@ use Rattle.mt_ram.specs.State.{RamTst, set_of}
 use Rattle.mt_ram.specs.Results.{failed_after}
 use Rattle.mt_ram.specs.Table.{MainFunction, cell, resumed, ram_table}
 use Rattle.mt_ram.specs.Event.{job_of, passed, of_pass, ticking}
-use Rattle.mt_blocks.specs.Inner.Small.{AreSmall}
-use Rattle.mt_ram.proofs.Sets.{accepted_spans, block_there}
-use Rattle.mt_replay.proofs.Pieces.{start-valid, small-from, ticks-group, from-of}
+use Rattle.mt_blocks.specs.Inner.Ticks.{GroupsTakeATick}
+use Rattle.mt_ram.specs.Inner.Sets.{SetsAreCut}
+use Rattle.mt_replay.proofs.Pieces.{block_there, start-valid, from-of}
 use Rattle.mt_replay.proofs.Phases.{IsBehind, results_by, Knows, reaches, goes_on}
 use Rattle.mt_replay.proofs.Scenes.{MemoryLaws, Handlers, HasBoard, IsSpoiled, Rows, Stands}
 use Rattle.mt_replay.proofs.SceneEvents.{Passes, Walks, weakened, slices-walk, any-middle}
 use Rattle.mt_replay.proofs.PassRows.{Turn, Stays, Stops, Suspends, Resumes, turn_running, IsOn, row-on, InSomePass, InTick, is_stop_or_suspend}
-use Rattle.mt_replay.proofs.PassEvents.{Caught, IsSlice, caught_taken, detects, pass_attempts, tick_enters}
+use Rattle.mt_replay.proofs.PassEvents.{AttemptLaws, Caught, IsSlice, caught_taken, detects, pass_attempts, tick_enters}
 
 -- the laws of attempts and passes
 pub record PassLaws : Type 0 where
   pub memory : MemoryLaws
-  pub detect : AttemptsDetect
+  pub attempts : AttemptLaws
   pub end : WholeAttemptsEnd
-  pub stay : AttemptsStaySound
+  pub cut : SetsAreCut
   pub go : PassesGoOn
+  pub group : GroupsTakeATick
 
 -- where a pass or a test stands to the caught slice, of which so many slices are left: behind it, or before it where this holds
 abbrev pub Phase : Piece → Option Position → List TestResult → Bool → List Piece → Type 0 → Type 0
@@ -128,13 +129,13 @@ tick_slice laws h fault set cells p caught present rest Before x more may r b v 
         let K = set.atomic in
         let spans = spans_of set.blocks in
         let valid : IsValid K spans y = subst (λ (q : Option Position). IfSome q (IsValid K spans)) here a.valid in
-        let goes = laws.go K spans y (accepted_spans h.shape set caught.limits caught.accepted) valid in
+        let goes = laws.go K spans y (laws.cut h.shape set caught.limits caught.accepted) valid in
         let whole : x ∷ (more ++ rest) ≡ piece_at K spans y ∷ from_next K spans (next_of K spans y) = a.split ∙ ap (λ (q : Option Position). from_next K spans q) here ∙ goes.pass in
         let head : x ≡ piece_at K spans y = cc in
         let tail : more ++ rest ≡ from_next K spans (next_of K spans y) = cc in
         let phase : Phase p (Some y) r.results r.failed (piece_at K spans y ∷ (more ++ rest)) Before =
         subst (λ (q : Piece). Phase p (Some y) r.results r.failed (q ∷ (more ++ rest)) Before) head (subst (λ (q : Option Position). Phase p q r.results r.failed (x ∷ (more ++ rest)) Before) here a.phase) in
-        let fails : piece_at K spans y ≡ p → v ≡ Fail = λ is. detects laws.detect h fault set cells p caught present may r x b v on board (head ∙ is) e in
+        let fails : piece_at K spans y ≡ p → v ≡ Fail = λ is. detects laws.attempts h fault set cells p caught present may r x b v on board (head ∙ is) e in
         let next : AtTick set p rest Before more (passed r (piece_at K spans y) v) = record {
           place = next_of K spans y;
           split = tail;
@@ -206,11 +207,8 @@ running_tick laws h fault set cells left less p caught present bad low more o w 
     let L = from_place K spans i.at in
     let n = group_len cells L in
     let rest = drop n L in
-    let goes = laws.go K spans i.at (accepted_spans h.shape set caught.limits caught.accepted) i.pass.valid in
     let Before = ticks cells L ≤ left in
-    let one : ticks cells L ≡ suc (ticks cells rest) =
-    subst (λ (l : List Piece). ticks cells l ≡ suc (ticks cells (drop (group_len cells l) l))) (sym goes.pass)
-    (ticks-group cells (piece_at K spans i.at) _ (subst (AreSmall cells) goes.pass (small-from K cells spans i.at low))) in
+    let one : ticks cells L ≡ suc (ticks cells rest) = laws.group K cells spans i.at (laws.cut h.shape set caught.limits caught.accepted) i.pass.valid low in
     let whole : take n L ++ rest ≡ L = take-append-drop n L in
     let fewer : Before → ticks cells rest ≤ less = λ before. omega (arith, before, one, more) in
     let At = λ (l : List Piece) (q : RamTst) (failed : Bool). AtTick set p rest Before l q in
@@ -225,7 +223,7 @@ running_tick laws h fault set cells left less p caught present bad low more o w 
       phase = subst (λ (l : List Piece). Phase p (Some i.at) r.results r.failed l Before) (sym whole) i.pass.phase;
     } in
     let start : Walks h (IsOn set cells) (λ q failed. AtTick set p rest Before (take n L) q) (started false o) = weakened h (IsOn set cells) (InTick set p cells left) (AtTick set p rest Before (take n L)) o (λ z. first) w in
-    let walk = slices-walk laws.memory h of_pass (IsOn set cells) (IsSlice set) At (pass_attempts laws.stay h set cells (caught_taken h.shape fault set p caught)) rows
+    let walk = slices-walk laws.memory h of_pass (IsOn set cells) (IsSlice set) At (pass_attempts laws.attempts h set cells (caught_taken h.shape fault set p caught)) rows
     (λ x l is. tick_passes laws h fault set cells p caught present rest Before x l) (take n L) (started false o) (All-take (IsSlice set) n L (from-of K spans i.at caught.accepted.atomic_some)) start in
     let end = (slices of_pass (take n L) (started false o)).scene in
     let done : Stands h (IsOn set cells) (InSomePass set p cells less) end =
@@ -271,5 +269,5 @@ tick_middle laws h fault set cells left less p caught present bad low o runs wai
     of (inl z) =
         let end = tick_scene o o.callee.state in
         weakened h (IsOn set cells) (λ r. ⊥) (InSomePass set p cells less) end (λ q. absurd q)
-        (any-middle laws.memory h ticking (IsOn set cells) (λ r. ⊥) (IsSlice set) ⊥ (tick_enters laws.stay h set cells (caught_taken h.shape fault set p caught)) o (λ q. q) z)
+        (any-middle laws.memory h ticking (IsOn set cells) (λ r. ⊥) (IsSlice set) ⊥ (tick_enters laws.attempts h set cells (caught_taken h.shape fault set p caught)) o (λ q. q) z)
     of (inr i) = by_state i i.pass.state

@@ -1,30 +1,29 @@
--- The slices of a pass: where they stand, and how many ticks they take.
-use Rattle.std.proofs.Common.{ℕ, zero, suc, ◌+◌, ◌-◌, ◌*◌, ◌/◌, ◌<◌, ◌≤◌, ◌≡◌, Bool, cond, List, [], ◌∷◌, drop, length, All, refl, sym, ap, ◌∙◌, subst, arith}
-use Rattle.std.specs.Prelude.{min}
-use Rattle.std.proofs.Math.Nat.{mul-div_cancel}
-use Rattle.std.proofs.lemmas.Bool.{le-leb}
-use Rattle.std.proofs.lemmas.List.{length-drop, get_or-drop}
+-- Where the slices of a pass stand.
+use Rattle.std.proofs.Common.{ℕ, zero, suc, ◌+◌, ◌-◌, ◌*◌, ◌/◌, ◌<◌, ◌≤◌, ◌≡◌, List, [], ◌∷◌, drop, length, All, refl, sym, ap, ◌∙◌, subst, arith}
+use Rattle.std.proofs.Math.Nat.{mul-div_cancel, le-div_iff_mul-le, add-mul}
+use Rattle.std.proofs.lemmas.List.{length-drop, length-map, get_or-drop}
 use Rattle.std.proofs.lemmas.List.Elements.{All-nil, All-append, All-drop, All-from_get_or}
 use Rattle.std.proofs.lemmas.List.FromFn.{length-map-range_with_len, get_or-map-range_with_len}
-use Rattle.mt_port.specs.declared.board.Shape.{Shape}
-use Rattle.mt_seq.specs.Sequence.{IsSoundSlice}
 use Rattle.mt_blocks.specs.declared.span.Span.{Span}
 use Rattle.mt_blocks.specs.declared.pass.Position.{Position}
+use Rattle.mt_blocks.specs.declared.config.Block.{Block}
 use Rattle.mt_blocks.specs.declared.config.ParamSet.{ParamSet}
 use Rattle.mt_blocks.specs.Slices.{Piece, piece, piece_at, pieces, pieces_from, pass, from_place, span_at, span_len, no_span, slice_count, start, IsValid}
-use Rattle.mt_blocks.specs.Groups.{group_len, groups_up_to, ticks}
-use Rattle.mt_blocks.specs.Accepted.{spans_of, IsAcceptedSet}
-use Rattle.mt_blocks.proofs.Passes.{count_inside}
-use Rattle.mt_blocks.proofs.Cuts.{small-pass}
-use Rattle.mt_blocks.specs.Inner.Small.{AreSmall}
-use Rattle.mt_ram.proofs.Sets.{accepted_block, spans_at, block_there}
-
--- ---- where slices stand
+use Rattle.mt_blocks.specs.Accepted.{spans_of}
 
 -- A slice of some blocks: the one at its place.
 pub record IsOf (K : ℕ) (spans : List Span) (x : Piece) : Type 0 where
   pub valid : IsValid K spans x.place
   pub is : x ≡ piece_at K spans x.place
+
+-- the block of a slice is there
+pub block_there : (set : ParamSet) (at : Position) → IsValid set.atomic (spans_of set.blocks) at → at.block < length set.blocks
+block_there set at valid = omega (arith, length-map set.blocks (λ (b : Block). b.span), valid.block)
+
+count_inside : (K len k : ℕ) → 1 ≤ K → k < (len + K - 1) / K → k * K < len
+count_inside K len k some h =
+    let up : (k + 1) * K ≤ len + K - 1 = (le-div_iff_mul-le {k = K} {x = k + 1} {y = len + K - 1} (omega (arith, some))).0 (omega (arith, h)) in
+    omega (arith, up, add-mul k 1 K, some)
 
 within_block : (K : ℕ) (spans : List Span) (i k : ℕ) → 1 ≤ K → i < length spans → k < slice_count K (span_at spans i) → IsOf K spans (piece K i (span_at spans i) (k * K))
 within_block K spans i k some there below = record {
@@ -82,59 +81,3 @@ start-valid K spans some h = record {
   offset = omega arith;
   multiple = let e : 0 ≡ 0 * K = omega arith in e ∙ ap (λ (n : ℕ). n * K) (sym (mul-div_cancel 0 {n = K} (omega (arith, some))) ∙ ap (λ (n : ℕ). n / K) (sym e));
 }
-
--- the words of a slice of an accepted set are words of the RAM
-pub sound_slice : (shape : Shape) (set : ParamSet) (x : Piece) → IsAcceptedSet shape set → IsOf set.atomic (spans_of set.blocks) x → IsSoundSlice shape.ram x.slice
-sound_slice shape set x ok at =
-    let K = set.atomic in
-    let i = x.place.block in
-    let inside = block_there set x.place at.valid in
-    let block = accepted_block shape set i ok inside in
-    let s = span_at (spans_of set.blocks) i in
-    let ordered : s.first ≤ s.last = subst (λ (y : Span). y.first ≤ y.last) (sym (spans_at set.blocks i inside)) block.ordered in
-    let low : s.last < shape.ram = subst (λ (y : Span). y.last < shape.ram) (sym (spans_at set.blocks i inside)) block.inside in
-    let first : x.slice.first ≡ s.first + x.place.offset = ap (λ (y : Piece). y.slice.first) at.is in
-    let many : x.slice.n ≡ min (span_len s - x.place.offset) K = ap (λ (y : Piece). y.slice.n) at.is in
-    record {
-      some = omega (arith, many, at.valid.offset, ok.atomic_some);
-      small = omega (arith, many, ok.atomic_small);
-      inside = omega (arith, first, many, ordered, low, at.valid.offset);
-    }
-
--- ---- ticks
-
-small-drop : (N k : ℕ) (xs : List Piece) → AreSmall N xs → AreSmall N (drop k xs)
-small-drop N zero xs a = a
-small-drop N (suc k) [] a = tt
-small-drop N (suc k) (x ∷ xs) a = small-drop N k xs a.1
-
-pub small-from : (K N : ℕ) (spans : List Span) (x : Position) → K ≤ N → AreSmall N (from_place K spans x)
-unfolding from_place
-small-from K N spans x low = small-drop N (x.offset / K) (pieces_from K x.block (drop x.block spans)) (small-pass K N x.block (drop x.block spans) low)
-
--- a group has a slice
-some_group : (N : ℕ) (p : Piece) (more : List Piece) → p.slice.n ≤ N → group_len N (p ∷ more) ≡ suc (group_len (N - p.slice.n) more)
-some_group N p more fits = ap (λ (b : Bool). cond b (suc (group_len (N - p.slice.n) more)) 0) (le-leb p.slice.n N fits)
-
--- a longer bound leaves the groups
-enough : (N most other : ℕ) (L : List Piece) → AreSmall N L → length L ≤ most → length L ≤ other → length (groups_up_to most N L) ≡ length (groups_up_to other N L)
-enough N zero zero [] small a b = refl
-enough N zero (suc other) [] small a b = refl
-enough N (suc most) zero [] small a b = refl
-enough N (suc most) (suc other) [] small a b = refl
-enough N zero other (p ∷ more) small a b = absurd (omega (arith, a))
-enough N (suc most) zero (p ∷ more) small a b = absurd (omega (arith, b))
-enough N (suc most) (suc other) (p ∷ more) small a b =
-    let g = group_len N (p ∷ more) in
-    let one = some_group N p more small.0 in
-    let less = length-drop g (p ∷ more) in
-    ap suc (enough N most other (drop g (p ∷ more)) (small-drop N g (p ∷ more) small) (omega (arith, less, one, a)) (omega (arith, less, one, b)))
-
--- what is left behind the first group takes one tick less
-pub ticks-group : (N : ℕ) (p : Piece) (more : List Piece) → AreSmall N (p ∷ more) → ticks N (p ∷ more) ≡ suc (ticks N (drop (group_len N (p ∷ more)) (p ∷ more)))
-unfolding ticks
-ticks-group N p more small =
-    let g = group_len N (p ∷ more) in
-    let one = some_group N p more small.0 in
-    let less = length-drop g (p ∷ more) in
-    ap suc (enough N (length more) (length (drop g (p ∷ more))) (drop g (p ∷ more)) (small-drop N g (p ∷ more) small) (omega (arith, less, one)) (omega arith))

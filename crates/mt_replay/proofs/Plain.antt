@@ -40,6 +40,7 @@ use Rattle.mt_replay.specs.Plain.{plain_running, plain_call, plain_event, plain_
 use Rattle.mt_replay.proofs.Defects.{BoardsStay}
 use Rattle.mt_replay.proofs.Accepted.{small}
 use Rattle.mt_replay.proofs.Fixed.{config_accepted}
+use Rattle.mt_replay.proofs.SoundBoards.{settings_left}
 
 -- what is known of the running calls of RamTst, and of both modules' calls
 pub record LeaveNoTrace : Type 0 where
@@ -50,17 +51,12 @@ pub record LeaveNoTrace : Type 0 where
 
 pub leave_no_trace : LeavesNoTrace ticking → LeavesNoTrace full_test → PartialTestsLeaveNoTrace → LeavesSetting ticking → LeavesSetting full_test → PartialTestsLeaveSetting
     → ServicesLeaveSetting → BoardsStay → LeaveNoTrace
-leave_no_trace tick full partial tick_setting full_setting partial_setting services boards = record { calls = traces; settings = settings; services = services; boards = boards }
+leave_no_trace tick full partial tick_setting full_setting partial_setting services boards = record { calls = traces; settings = settings_left tick_setting full_setting partial_setting; services = services; boards = boards }
   where
     traces : (call : Running) → LeavesNoTrace (events_of call)
     traces rams.Tick = tick
     traces rams.Full = full
     traces (rams.Partial block) = partial block
-
-    settings : (call : Running) → LeavesSetting (events_of call)
-    settings rams.Tick = tick_setting
-    settings rams.Full = full_setting
-    settings (rams.Partial block) = partial_setting block
 
 -- a machine on sound memory, whose RamTst has this setting
 pub record IsSound (z : Setting) (m : Machine) : Type 0 where

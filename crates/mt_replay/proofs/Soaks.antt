@@ -1,5 +1,5 @@
 -- Lines of a generated script that are replayed, and their sums.
-use Rattle.std.proofs.Common.{ℕ, ◌+◌, ◌≡◌, ◌⊎◌, inl, inr, List, [], ◌∷◌, ◌++◌, length, All, Option, Some, None, fold, refl, sym, ap, subst, ◌∙◌, append_assoc, append-nil, length-append}
+use Rattle.std.proofs.Common.{ℕ, ◌+◌, ◌≡◌, ◌⊎◌, inl, inr, List, [], ◌∷◌, ◌++◌, length, Option, Some, None, fold, refl, sym, ap, subst, ◌∙◌, append_assoc, append-nil, length-append}
 use Rattle.std.proofs.lemmas.List.Sums.{fold-append}
 use Rattle.mt_port.specs.Board.{Board, Logs, powered_up}
 use Rattle.mt_port.specs.declared.board.Shape.{Shape}
@@ -7,18 +7,16 @@ use Rattle.mt_port.specs.declared.board.Touch.{Touch}
 use Rattle.mt_port.specs.Inner.Streams.{Logs-nil, Logs-append}
 use Rattle.mt_fault.specs.declared.fault.Fault.{Fault}
 use Rattle.mt_text.specs.declared.line.Line.{Line}
-use Rattle.mt_text.specs.Accepted.{IsAccepted}
 use Rattle.mt_window.specs.declared.log.Entry.{Entry}
 use Rattle.mt_window.specs.declared.log.Entry.TheVariants.{Own}
 use Rattle.mt_window.specs.declared.reply.Reply.{Reply}
 use Rattle.mt_ram.specs.Results.{overall}
 use Rattle.mt_conf.specs.declared.config.Config.{Config}
 use Rattle.mt_gen.specs.Config.{job_config}
-use Rattle.mt_gen.specs.Script.{job_shape, script}
+use Rattle.mt_gen.specs.Script.{script}
 use Rattle.mt_gen.specs.declared.summary.Summary.{Summary}
 use Rattle.mt_gen.specs.Summary.{summary_of, with_entry}
-use Rattle.mt_gen.proofs.ScriptLemmas.{script_all, of_number, accepted_forms, accepted_first}
-use Rattle.mt_gen.proofs.SummaryLemmas.{with_entries-summary_of, summary_of-lines, lines-summary_of}
+use Rattle.mt_gen.specs.Inner.Forms.{LinesAreOfForms}
 use Rattle.mt_replay.specs.declared.status.Status.{Status}
 use Rattle.mt_replay.specs.declared.status.Status.TheVariants as status
 use Rattle.mt_replay.specs.Machine.{Machine, Step, step, IsReady, started}
@@ -33,21 +31,24 @@ use Rattle.mt_replay.proofs.Plays.{played-append, touches-append}
 use Rattle.mt_replay.proofs.Jobs.{not-risen}
 use Rattle.mt_replay.proofs.Ups.{IsUp, script_up}
 
--- each line of a script is accepted
-pub accepted_script : (number : ℕ) → All (IsAccepted job_shape) (script number)
-accepted_script = script_all (IsAccepted job_shape) accepted_first (of_number (IsAccepted job_shape) accepted_forms)
-
 -- ---- sums
 
 entries_of-append : (a b : List Step) → entries_of (a ++ b) ≡ entries_of a ++ entries_of b
 entries_of-append [] b = refl
 entries_of-append (s ∷ a) b = ap (λ (l : List Entry). s.entries ++ l) (entries_of-append a b) ∙ sym (append_assoc s.entries (entries_of a) (entries_of b))
 
-with_line-is : (lines : ℕ) (before entries : List Entry) → with_line (summary_of lines before) entries ≡ summary_of (lines + 1) (before ++ entries)
-with_line-is lines before entries =
-    ap (λ (s : Summary). fold with_entry s entries)
-    (summary_of-lines lines ((summary_of lines before).lines + 1) before ∙ ap (λ (n : ℕ). summary_of (n + 1) before) (lines-summary_of lines before))
-    ∙ with_entries-summary_of (lines + 1) before entries
+-- a summary with one entry more is that of all of them
+abbrev pub SummariesAreSums : Type 0
+SummariesAreSums = (lines : ℕ) (entries : List Entry) (entry : Entry) → with_entry (summary_of lines entries) entry ≡ summary_of lines (entries ++ entry ∷ [])
+
+with_entries-is : SummariesAreSums → (lines : ℕ) (before entries : List Entry) → fold with_entry (summary_of lines before) entries ≡ summary_of lines (before ++ entries)
+with_entries-is sums lines before [] = ap (summary_of lines) (sym (append-nil before))
+with_entries-is sums lines before (entry ∷ entries) =
+    ap (λ (s : Summary). fold with_entry s entries) (sums lines before entry) ∙ with_entries-is sums lines (before ++ entry ∷ []) entries ∙ ap (summary_of lines) (append_assoc before (entry ∷ []) entries)
+
+with_line-is : SummariesAreSums → (lines : ℕ) (before entries : List Entry) → with_line (summary_of lines before) entries ≡ summary_of (lines + 1) (before ++ entries)
+unfolding summary_of
+with_line-is sums lines before entries = with_entries-is sums (lines + 1) before entries
 
 -- what is added up in two parts
 pub parts_added : (s a b : Summary) (log : List Entry) (reply : Reply) → a ≡ fold with_entry s log → b ≡ fold with_entry a (Own reply ∷ []) → b ≡ fold with_entry s (log ++ Own reply ∷ [])
@@ -65,9 +66,9 @@ pub Sums-none : (m : Machine) (tape : Option (List Touch)) → Sums m m [] (summ
 Sums-none m tape = record { after = refl; sums = refl; taped = Logs-nil tape }
 
 -- one line more
-pub Sums-next : (m m' m'' : Machine) (lines : List Line) (line : Line) (s s' : Summary) (tape tape' tape'' : Option (List Touch))
+pub Sums-next : SummariesAreSums → (m m' m'' : Machine) (lines : List Line) (line : Line) (s s' : Summary) (tape tape' tape'' : Option (List Touch))
     → Sums m m' lines s tape tape' → Adds (step m' line) m'' s s' tape' tape'' → Sums m m'' (lines ++ line ∷ []) s' tape tape''
-Sums-next m m' m'' lines line s s' tape tape' tape'' q r =
+Sums-next known m m' m'' lines line s s' tape tape' tape'' q r =
     let k = (played m lines).after in
     let steps = (played m lines).steps in
     let made = step k line in
@@ -79,7 +80,7 @@ Sums-next m m' m'' lines line s s' tape tape' tape'' q r =
     touches-append steps (made ∷ []) ∙ ap (λ (l : List Touch). steps_touches steps ++ l) (append-nil made.touches) in
     record {
       after = second.after ∙ sym (ap (λ (p : Play). p.after) both);
-      sums = second.sums ∙ ap (λ (z : Summary). with_line z made.entries) q.sums ∙ with_line-is (length lines) (entries_of steps) made.entries
+      sums = second.sums ∙ ap (λ (z : Summary). with_line z made.entries) q.sums ∙ with_line-is known (length lines) (entries_of steps) made.entries
           ∙ ap (summary_of (length lines + 1)) (sym (ap (λ (p : Play). entries_of p.steps) both ∙ entries))
           ∙ ap (λ (n : ℕ). summary_of n (entries_of (played m (lines ++ line ∷ [])).steps)) (sym (length-append lines (line ∷ [])));
       taped = subst (Logs tape tape'') (sym (ap (λ (p : Play). steps_touches p.steps) both ∙ touches)) (Logs-append tape tape' tape'' (steps_touches steps) made.touches q.taped second.taped);
@@ -94,12 +95,12 @@ pub record Soaking (m m' : Machine) (all left : List Line) (s : Summary) (tape t
 pub Soaking-none : (m : Machine) (all left : List Line) (s : Summary) (tape : Option (List Touch)) → left ≡ all → s ≡ summary_of 0 [] → Soaking m m all left s tape tape
 Soaking-none m all left s tape e none = record { lines = []; split = sym e; sums = subst (λ (z : Summary). Sums m m [] z tape tape) (sym none) (Sums-none m tape) }
 
-pub Soaking-next : (m m' m'' : Machine) (all left left' : List Line) (line : Line) (s s' : Summary) (tape tape' tape'' : Option (List Touch))
+pub Soaking-next : SummariesAreSums → (m m' m'' : Machine) (all left left' : List Line) (line : Line) (s s' : Summary) (tape tape' tape'' : Option (List Touch))
     → Soaking m m' all left s tape tape' → left ≡ line ∷ left' → Adds (step m' line) m'' s s' tape' tape'' → Soaking m m'' all left' s' tape tape''
-Soaking-next m m' m'' all left left' line s s' tape tape' tape'' q e r = record {
+Soaking-next known m m' m'' all left left' line s s' tape tape' tape'' q e r = record {
   lines = q.lines ++ line ∷ [];
   split = q.split ∙ ap (λ (l : List Line). q.lines ++ l) e ∙ sym (append_assoc q.lines (line ∷ []) left');
-  sums = Sums-next m m' m'' q.lines line s s' tape tape' tape'' q.sums r;
+  sums = Sums-next known m m' m'' q.lines line s s' tape tape' tape'' q.sums r;
 }
 
 pub Soaking-all : (m m' : Machine) (all left : List Line) (s : Summary) (tape tape' : Option (List Touch)) → Soaking m m' all left s tape tape' → left ≡ [] → Sums m m' all s tape tape'
@@ -138,6 +139,10 @@ soak_completes result number defect old new sink sink' x (inr lacks) stood = inr
 
 -- ---- how the sums begin, and how they go on
 
+pub none-lines : (summary_of 0 []).lines ≡ 0
+unfolding summary_of
+none-lines = refl
+
 pub none-ran : (summary_of 0 []).ran ≡ 0
 unfolding summary_of
 none-ran = refl
@@ -174,10 +179,10 @@ soaked_gives result number defect m m' s old was tape tape' h h' sink sink' e t 
     )
 
 -- RamTst is initialized behind it
-pub soaked_up : (number : ℕ) (defect : Option Fault) (m m' : Machine) (s : Summary) (tape tape' : Option (List Touch)) → m ≡ started job_config defect → Sums m m' (script number) s tape tape' → IsUp m'.modules.ram
-soaked_up number defect m m' s tape tape' e sums =
+pub soaked_up : LinesAreOfForms → (number : ℕ) (defect : Option Fault) (m m' : Machine) (s : Summary) (tape tape' : Option (List Touch)) → m ≡ started job_config defect → Sums m m' (script number) s tape tape' → IsUp m'.modules.ram
+soaked_up forms number defect m m' s tape tape' e sums =
     let here = subst (λ (n : Machine). Sums n m' (script number) s tape tape') e sums in
-    subst (λ (k : Machine). IsUp k.modules.ram) (sym here.after) (script_up number defect)
+    subst (λ (k : Machine). IsUp k.modules.ram) (sym here.after) (script_up forms number defect)
 
 pub started_defect : (config : Config) (defect : Option Fault) → (started config defect).board.defect ≡ defect
 unfolding powered_up

@@ -24,9 +24,9 @@ use Rattle.mt_blocks.specs.declared.config.ParamSet.{ParamSet}
 use Rattle.mt_blocks.specs.Slices.{Piece}
 use Rattle.mt_blocks.specs.Accepted.{set_at, IsAcceptedSet}
 use Rattle.mt_ram.specs.State.{Setting, RamTst, set_of}
-use Rattle.mt_ram.specs.Table.{Service, MainFunction, RunFullTest, RunPartialTest}
-use Rattle.mt_ram.specs.Laws.{LeavesSetting}
-use Rattle.mt_ram.proofs.Settings.{pass_leaves, test_leaves}
+use Rattle.mt_ram.specs.Table.{Service}
+use Rattle.mt_ram.specs.Event.{ticking, full_test}
+use Rattle.mt_ram.specs.Laws.{LeavesSetting, PartialTestsLeaveSetting}
 use Rattle.mt_fls.specs.State.{FlsTst}
 use Rattle.mt_fls.specs.Table as fls_table
 use Rattle.mt_text.specs.declared.line.Event.{Event}
@@ -65,13 +65,20 @@ HealedIsSound = (m : memory.Memory) → memory.IsSound m → memory.IsSound (rec
 abbrev pub PlacementIsTested : Type 0
 PlacementIsTested = (width : Width) (size : ℕ) (fault : Fault) → IsTrue (in_range width size fault && not (same_word fault)) ↔ IsWellPlaced width size fault
 
--- what is known of memory and of attempts
+-- what running calls leave, by the call
+pub settings_left : LeavesSetting ticking → LeavesSetting full_test → PartialTestsLeaveSetting → (call : Running) → LeavesSetting (events_of call)
+settings_left tick full partial rams.Tick = tick
+settings_left tick full partial rams.Full = full
+settings_left tick full partial (rams.Partial block) = partial block
+
+-- what is known of memory, of attempts and of running calls
 pub record BoardLaws : Type 0 where
   pub pass : PassLaws
   pub fresh : FreshIsSound
   pub injected : InjectedIsSound
   pub healed : HealedIsSound
   pub placed : PlacementIsTested
+  pub settings : (call : Running) → LeavesSetting (events_of call)
 
 -- ---- a fault comes and goes
 
@@ -136,19 +143,14 @@ handled_sound shape (r ∷ more) all =
     (handled_sound shape more (All-tail (λ (r : Request). All (IsSoundInHandler shape) r.ops.items) r more all))
 
 pub ram_enters : PassLaws → (call : Running) (h : Handlers) (set : ParamSet) (cells : ℕ) → IsTaken h.shape set → Enters h (events_of call) (IsOn set cells) (IsSlice set)
-ram_enters laws rams.Tick h set cells taken = tick_enters laws.stay h set cells taken
-ram_enters laws rams.Full h set cells taken = full_enters laws.stay h set cells taken
-ram_enters laws (rams.Partial block) h set cells taken = part_enters laws.stay h block set cells taken
+ram_enters laws rams.Tick h set cells taken = tick_enters laws.attempts h set cells taken
+ram_enters laws rams.Full h set cells taken = full_enters laws.attempts h set cells taken
+ram_enters laws (rams.Partial block) h set cells taken = part_enters laws.attempts h block set cells taken
 
 pub cleared-on : (call : Running) (set : ParamSet) (cells : ℕ) (r : RamTst) → IsOn set cells r → IsOn set cells ((events_of call).cleared r)
 cleared-on rams.Tick set cells r on = record { same = on.same; many = on.many; results = on.results }
 cleared-on rams.Full set cells r on = record { same = on.same; many = on.many; results = on.results }
 cleared-on (rams.Partial block) set cells r on = record { same = on.same; many = on.many; results = on.results }
-
-settings : (call : Running) → LeavesSetting (events_of call)
-settings rams.Tick = pass_leaves MainFunction
-settings rams.Full = test_leaves RunFullTest
-settings (rams.Partial block) = test_leaves (RunPartialTest block)
 
 -- What holds from line to line: the shape, the words, and the set of RamTst.
 pub record IsSoundMachine (shape : Shape) (z : Setting) (m : Machine) : Type 0 where
@@ -166,26 +168,26 @@ own_set shape z m all h =
 pub begins_on : (z : Setting) (r : RamTst) → IsSet z r → IsOn (set_of r) r.cells r
 begins_on z r h = record { same = refl; many = refl; results = h.results }
 
-ram-sound : PassLaws → (shape : Shape) (z : Setting) → All (IsAcceptedSet shape) z.config.sets → (m : Machine) (call : Running) (requests : List Request) → AreSoundIn shape requests → IsSoundMachine shape z m
+ram-sound : BoardLaws → (shape : Shape) (z : Setting) → All (IsAcceptedSet shape) z.config.sets → (m : Machine) (call : Running) (requests : List Request) → AreSoundIn shape requests → IsSoundMachine shape z m
     → IsSoundMachine shape z (running_ram call m requests).after
 ram-sound laws shape z all m call requests ops h =
     let r = m.modules.ram in
     let s : Scene RamTst = begun m.board r requests in
     let hs = free_handlers m.board requests in
     let set = set_of r in
-    let enters = ram_enters laws call hs set r.cells (own_set shape z m all h) in
+    let enters = ram_enters laws.pass call hs set r.cells (own_set shape z m all h) in
     let board : HasBoard hs s.board = record { shape = refl; fault = refl; sound = record { sized = h.words.sized; memory = h.words.memory } } in
     let start : Stands hs (IsOn set r.cells) Anything (scene s.board ((events_of call).cleared r) []) =
     fresh hs (IsOn set r.cells) Anything s.board ((events_of call).cleared r) refl board (subst (λ (y : Shape). All (IsSoundInHandler y) (handled requests)) (sym h.common) (handled_sound shape requests ops))
     (cleared-on call set r.cells r (begins_on z r h.ram)) tt in
-    let goes = any-event laws.memory hs (events_of call) (IsOn set r.cells) (IsSlice set) enters s start in
+    let goes = any-event laws.pass.memory hs (events_of call) (IsOn set r.cells) (IsSlice set) enters s start in
     let same = goes.holds.same in
     let atomic : (set_of (event_of (events_of call) s).after.callee).atomic ≡ set.atomic = ap (λ (y : ParamSet). y.atomic) same in
     record {
       common = goes.board.shape ∙ h.common;
       words = record { sized = goes.board.sound.sized; memory = goes.board.sound.memory };
       ram = record {
-        setting = settings call s ∙ h.ram.setting;
+        setting = laws.settings call s ∙ h.ram.setting;
         results = goes.holds.results ∙ ap (λ (y : ParamSet). length y.blocks) (sym same);
         low = omega (arith, atomic, goes.holds.many, h.ram.low);
       };
@@ -226,7 +228,7 @@ fls-sound laws shape z m call requests ops h =
 
 -- ---- lines
 
-by_call-sound : PassLaws → (shape : Shape) (z : Setting) → All (IsAcceptedSet shape) z.config.sets → (m : Machine) (service : Service) (call : Option Running) (requests : List Request) → AreSoundIn shape requests
+by_call-sound : BoardLaws → (shape : Shape) (z : Setting) → All (IsAcceptedSet shape) z.config.sets → (m : Machine) (service : Service) (call : Option Running) (requests : List Request) → AreSoundIn shape requests
     → IsSoundMachine shape z m → IsSoundMachine shape z (by_service m service call requests).after
 by_call-sound laws shape z all m service None requests ops h = record { common = h.common; words = h.words; ram = service_stays z shape all m.modules.ram service h.ram }
 by_call-sound laws shape z all m service (Some call) requests ops h = ram-sound laws shape z all m call requests ops h
@@ -246,9 +248,9 @@ inject-sound laws shape z m fault false placed h =
 event-sound : BoardLaws → (shape : Shape) (z : Setting) → All (IsAcceptedSet shape) z.config.sets → (m : Machine) (e : Event) (requests : List Request) → IsSoundEvent shape e → AreSoundIn shape requests
     → IsSoundMachine shape z m → IsSoundMachine shape z (by_event m e requests).after
 event-sound laws shape z all m event.Nothing requests ok ops h = h
-event-sound laws shape z all m (event.Ram call) requests ok ops h = by_call-sound laws.pass shape z all m (service_of call) (running_call call) requests ops h
+event-sound laws shape z all m (event.Ram call) requests ok ops h = by_call-sound laws shape z all m (service_of call) (running_call call) requests ops h
 event-sound laws shape z all m (event.Fls call) requests ok ops h = by_fls-sound laws.pass shape z m (fls_service_of call) (fls_running_call call) requests ops h
-event-sound laws shape z all m event.TickRam requests ok ops h = ram-sound laws.pass shape z all m rams.Tick requests ops h
+event-sound laws shape z all m event.TickRam requests ok ops h = ram-sound laws shape z all m rams.Tick requests ops h
 event-sound laws shape z all m event.TickFls requests ok ops h = fls-sound laws.pass shape z m fls_calls.Tick requests ops h
 event-sound laws shape z all m (event.App op) requests ok ops h =
     let sound = operation_sound laws.pass.memory m.board op h.words (subst (λ (y : Shape). IsSoundEvent y (event.App op)) (sym h.common) ok) in

@@ -1,6 +1,8 @@
 -- Trace lines: each is one line, and how they are compared one after another.
-use Rattle.std.proofs.Common.{ℕ, ◌+◌, ◌<◌, ◌≡◌, true, List, [], ◌∷◌, ◌++◌, length, Option, Some, None, refl, sym, ap, subst, ◌∙◌, arith, codes, append_assoc, append-nil, length-append}
+use Rattle.std.proofs.Common.{ℕ, ◌+◌, ◌<◌, ◌≡◌, ◌==◌, Bool, true, cond, List, [], ◌∷◌, ◌++◌, length, Option, Some, None, refl, sym, ap, subst, ◌∙◌, arith, codes, append_assoc, append-nil, length-append}
 use Rattle.std.specs.Fmt.{decimal}
+use Rattle.std.proofs.lemmas.Bool.{ne_eqb}
+use Rattle.std.proofs.lemmas.List.Sums.{sum_by-cons}
 use Rattle.mt_word.specs.declared.Width.{Width}
 use Rattle.mt_window.specs.declared.log.Entry.{Entry}
 use Rattle.mt_window.specs.declared.log.Entry.TheVariants.{Served, Inner, Own}
@@ -22,9 +24,7 @@ use Rattle.mt_text.specs.Trace.{state_name, result_name, algorithm_name, refusal
 use Rattle.std.specs.List.{AllByRecursion}
 use Rattle.mt_port.specs.declared.board.Shape.{Shape}
 use Rattle.mt_verify.specs.Lines.{feeds, lines}
-use Rattle.mt_verify.specs.Laws.{IsWhole, HasNoEmptyLine, HasNoFeed as HasNoLineFeed}
-use Rattle.mt_verify.proofs.Lines.{feeds-byte, lines-nil}
-use Rattle.mt_verify.proofs.Whole.{line_first, whole, joined}
+use Rattle.mt_verify.specs.Laws.{IsWhole, HasNoEmptyLine, HasNoFeed as HasNoLineFeed, LinesEndAtFeeds, FeedsMakeWhole, WholeTextsJoin}
 use Rattle.mt_replay.specs.Machine.{Machine, Step}
 use Rattle.mt_replay.specs.Outcome.{done_text, steps_text}
 use Rattle.mt_replay.specs.Inner.Reading.{HasNoFeed}
@@ -38,7 +38,7 @@ use Rattle.mt_replay.specs.Inner.Replaying.{Played}
 use Rattle.mt_replay.proofs.Plays.{run_text-one, run_touches-one}
 use Rattle.mt_replay.proofs.Comparisons.{feeds-append}
 use Rattle.mt_replay.proofs.Feedless.{feedless, no_feed, feedless-append, decimal_feedless, word_feedless}
-use Rattle.mt_replay.proofs.Texts.{entries_text-nil, entries_text-then}
+use Rattle.mt_replay.proofs.Texts.{TracesJoin, entries_text-nil, entries_text-then}
 
 -- ---- what stands in a trace line has no line feed
 
@@ -111,7 +111,9 @@ shown_entry_feedless width (Own r) = reply_feedless width r
 
 no_feeds : (xs : List ℕ) → HasNoFeed xs → feeds xs ≡ 0
 no_feeds [] h = refl
-no_feeds (x ∷ xs) h = feeds-byte x xs h.0 ∙ no_feeds xs h.1
+no_feeds (x ∷ xs) h =
+    let e : 0 + feeds xs ≡ feeds xs = omega arith in
+    sum_by-cons (λ (b : ℕ). cond (b == 10) 1 0) x xs ∙ ap (λ (b : Bool). cond b 1 0 + feeds xs) (ne_eqb x 10 h.0) ∙ e ∙ no_feeds xs h.1
 
 -- a text that ends with its only line feed
 pub one_line : (front : List ℕ) → feedless front ≡ true → feeds (front ++ 10 ∷ []) ≡ 1
@@ -133,48 +135,55 @@ pub record IsTrace (text : List ℕ) : Type 0 where
   pub whole : IsWhole text
   pub full : HasNoEmptyLine text
 
+-- what is known of whole lines
+pub record WholeLines : Type 0 where
+  pub first : LinesEndAtFeeds
+  pub whole : FeedsMakeWhole
+  pub joined : WholeTextsJoin
+
 pub no_trace : IsTrace []
-no_trace = record { whole = tt; full = subst (AllByRecursion (λ (line : List ℕ). 0 < length line)) (sym lines-nil) tt }
+unfolding lines
+no_trace = record { whole = tt; full = tt }
 
 other_bytes : (xs : List ℕ) → HasNoFeed xs → HasNoLineFeed xs
 other_bytes [] h = tt
 other_bytes (x ∷ xs) h = (h.0, other_bytes xs h.1)
 
-pub line_before : (front behind : List ℕ) → feedless front ≡ true → 0 < length front → IsTrace behind → IsTrace ((front ++ 10 ∷ []) ++ behind)
-line_before front behind h some t = record {
-  whole = joined (front ++ 10 ∷ []) behind (whole front) t.whole;
+pub line_before : WholeLines → (front behind : List ℕ) → feedless front ≡ true → 0 < length front → IsTrace behind → IsTrace ((front ++ 10 ∷ []) ++ behind)
+line_before known front behind h some t = record {
+  whole = known.joined (front ++ 10 ∷ []) behind (known.whole front) t.whole;
   full =
-      let first : lines ((front ++ 10 ∷ []) ++ behind) ≡ front ∷ lines behind = ap lines (append_assoc front (10 ∷ []) behind) ∙ line_first front behind (other_bytes front (no_feed front h)) in
+      let first : lines ((front ++ 10 ∷ []) ++ behind) ≡ front ∷ lines behind = ap lines (append_assoc front (10 ∷ []) behind) ∙ known.first front behind (other_bytes front (no_feed front h)) in
       subst (AllByRecursion (λ (line : List ℕ). 0 < length line)) (sym first) (some, t.full);
 }
 
-pub entry_before : (width : Width) (number : ℕ) (entry : Entry) (behind : List ℕ) → IsTrace behind → IsTrace (entry_text width number entry ++ behind)
+pub entry_before : WholeLines → (width : Width) (number : ℕ) (entry : Entry) (behind : List ℕ) → IsTrace behind → IsTrace (entry_text width number entry ++ behind)
 unfolding entry_text
-entry_before width number entry behind t =
+entry_before known width number entry behind t =
     let front = decimal number ++ codes " " in
-    line_before (front ++ shown_entry width entry) behind
+    line_before known (front ++ shown_entry width entry) behind
     (feedless-append front (shown_entry width entry) (feedless-append (decimal number) (codes " ") (decimal_feedless number) refl) (shown_entry_feedless width entry))
     (let one : length (codes " ") ≡ 1 = refl in omega (arith, one, length-append front (shown_entry width entry), length-append (decimal number) (codes " "))) t
 
-pub entries_before : (width : Width) (number : ℕ) (entries : List Entry) (behind : List ℕ) → IsTrace behind → IsTrace (entries_text width number entries ++ behind)
-entries_before width number [] behind t = subst (λ (l : List ℕ). IsTrace (l ++ behind)) (sym (entries_text-nil width number)) t
-entries_before width number (entry ∷ entries) behind t =
+pub entries_before : WholeLines → (width : Width) (number : ℕ) (entries : List Entry) (behind : List ℕ) → IsTrace behind → IsTrace (entries_text width number entries ++ behind)
+entries_before known width number [] behind t = subst (λ (l : List ℕ). IsTrace (l ++ behind)) (sym (entries_text-nil width number)) t
+entries_before known width number (entry ∷ entries) behind t =
     subst IsTrace (sym (append_assoc (entry_text width number entry) (entries_text width number entries) behind) ∙ ap (λ (l : List ℕ). l ++ behind) (sym (entries_text-cons width number entry entries)))
-    (entry_before width number entry (entries_text width number entries ++ behind) (entries_before width number entries behind t))
+    (entry_before known width number entry (entries_text width number entries ++ behind) (entries_before known width number entries behind t))
 
-pub steps_before : (shape : Shape) (number : ℕ) (steps : List Step) (behind : List ℕ) → IsTrace behind → IsTrace (steps_text shape number steps ++ behind)
-steps_before shape number [] behind t = t
-steps_before shape number (s ∷ more) behind t =
+pub steps_before : WholeLines → (shape : Shape) (number : ℕ) (steps : List Step) (behind : List ℕ) → IsTrace behind → IsTrace (steps_text shape number steps ++ behind)
+steps_before known shape number [] behind t = t
+steps_before known shape number (s ∷ more) behind t =
     subst IsTrace (sym (append_assoc (entries_text shape.width number s.entries) (steps_text shape (number + 1) more) behind))
-    (entries_before shape.width number s.entries (steps_text shape (number + 1) more ++ behind) (steps_before shape (number + 1) more behind t))
+    (entries_before known shape.width number s.entries (steps_text shape (number + 1) more ++ behind) (steps_before known shape (number + 1) more behind t))
 
 -- the whole text of a replay, with its closing line
-pub replay_trace : (shape : Shape) (number count : ℕ) (steps : List Step) → IsTrace (steps_text shape number steps ++ done_text count)
-replay_trace shape number count steps =
+pub replay_trace : WholeLines → (shape : Shape) (number count : ℕ) (steps : List Step) → IsTrace (steps_text shape number steps ++ done_text count)
+replay_trace known shape number count steps =
     let front = codes "end ok " ++ decimal count in
     let seven : length (codes "end ok ") ≡ 7 = refl in
-    steps_before shape number steps (done_text count)
-    (subst IsTrace (append-nil (done_text count)) (line_before front [] (feedless-append (codes "end ok ") (decimal count) refl (decimal_feedless count)) (omega (arith, seven, length-append (codes "end ok ") (decimal count))) no_trace))
+    steps_before known shape number steps (done_text count)
+    (subst IsTrace (append-nil (done_text count)) (line_before known front [] (feedless-append (codes "end ok ") (decimal count) refl (decimal_feedless count)) (omega (arith, seven, length-append (codes "end ok ") (decimal count))) no_trace))
 
 pub done_line : (count : ℕ) → feeds (done_text count) ≡ 1
 done_line count = one_line (codes "end ok " ++ decimal count) (feedless-append (codes "end ok ") (decimal count) refl (decimal_feedless count))
@@ -215,10 +224,10 @@ so_far_all width number all rest a b x y e so =
     subst (λ (l : List ℕ). Compares a b l x y) whole so.compared
 
 -- some entries and then one
-pub compares_answer : (width : Width) (number : ℕ) (log : List Entry) (own : Entry) (text : List ℕ) (a b c : Comparison) (x y z : Option (List ℕ)) → Compares a b (entries_text width number log) x y
+pub compares_answer : TracesJoin → (width : Width) (number : ℕ) (log : List Entry) (own : Entry) (text : List ℕ) (a b c : Comparison) (x y z : Option (List ℕ)) → Compares a b (entries_text width number log) x y
     → text ≡ entry_text width number own → Compares b c text y z → Compares a c (entries_text width number (log ++ own ∷ [])) x z
-compares_answer width number log own text a b c x y z p e q =
-    subst (λ (l : List ℕ). Compares a c l x z) (ap (λ (l : List ℕ). entries_text width number log ++ l) e ∙ sym (entries_text-then width number log own))
+compares_answer join width number log own text a b c x y z p e q =
+    subst (λ (l : List ℕ). Compares a c l x z) (ap (λ (l : List ℕ). entries_text width number log ++ l) e ∙ sym (entries_text-then join width number log own))
     (compares-then a b c (entries_text width number log) text x y z p q)
 
 -- ---- one line of a replay

@@ -1,7 +1,7 @@
 -- RamTst is initialized by the first line of a generated script, and stays so.
-use Rattle.std.proofs.Common.{◌≡◌, Bool, true, false, cond, ℕ, List, [], ◌∷◌, length, All, Option, refl}
+use Rattle.std.proofs.Common.{◌≡◌, Bool, true, false, cond, ℕ, List, [], ◌∷◌, length, All, Option, refl, sym, subst}
 use Rattle.std.specs.Prelude.{nat_lt, slice_index_or}
-use Rattle.std.proofs.lemmas.List.Elements.{All-head, All-tail, All-from_recursion}
+use Rattle.std.proofs.lemmas.List.Elements.{All-head, All-tail, All-append, All-weaker, All-from_recursion}
 use Rattle.mt_port.specs.declared.request.HandlerCall.{HandlerCall}
 use Rattle.mt_port.specs.declared.request.HandlerCall.TheVariants as calls
 use Rattle.mt_fault.specs.declared.fault.Fault.{Fault}
@@ -26,8 +26,7 @@ use Rattle.mt_ram.specs.Table.{Init, Allow, Stop, Suspend, Resume, GetTestResult
 use Rattle.mt_ram.specs.Event.{of_pass, ticking}
 use Rattle.mt_gen.specs.Config.{job_config}
 use Rattle.mt_gen.specs.Script.{ram_tick, first_lines, lines_behind, script}
-use Rattle.mt_gen.specs.Inner.EachForm.{OfEachForm}
-use Rattle.mt_gen.proofs.ScriptLemmas.{of_number, script_all}
+use Rattle.mt_gen.specs.Inner.Forms.{IsOfAForm, RamTick, FlsTick, Writes, Reads, Copies, Asks, LinesAreOfForms}
 use Rattle.mt_replay.specs.Machine.{Machine, begun, step, started}
 use Rattle.mt_replay.specs.Outcome.{played}
 
@@ -141,16 +140,14 @@ tick-up = row-keeps (λ (r : RamTst). record r { mark = false }) (λ (r : RamTst
 abbrev KeepsUp : Line → Type 0
 KeepsUp line = (m : Machine) → StaysUp m.modules.ram ((step m line).after.modules.ram)
 
-keeps_forms : OfEachForm KeepsUp
+keeps_form : (line : Line) → IsOfAForm line → KeepsUp line
 unfolding step
-keeps_forms = record {
-  ram = λ offset addr word o a w m. tick-up (begun m.board m.modules.ram ((ram_tick offset addr word).requests.items));
-  fls = λ offset addr o a m h. h;
-  write = λ addr word a w m h. h;
-  read = λ addr a m h. h;
-  copy = λ src dst s d m h. h;
-  result = λ m. result-up m.modules.ram m.modules.ram.state;
-}
+keeps_form line (RamTick offset addr word o a w is) = subst KeepsUp (sym is) (λ m. tick-up (begun m.board m.modules.ram ((ram_tick offset addr word).requests.items)))
+keeps_form line (FlsTick offset addr o a is) = subst KeepsUp (sym is) (λ m h. h)
+keeps_form line (Writes addr word a w is) = subst KeepsUp (sym is) (λ m h. h)
+keeps_form line (Reads addr a is) = subst KeepsUp (sym is) (λ m h. h)
+keeps_form line (Copies src dst s d is) = subst KeepsUp (sym is) (λ m h. h)
+keeps_form line (Asks is) = subst KeepsUp (sym is) (λ m. result-up m.modules.ram m.modules.ram.state)
 
 keeps_first : All KeepsUp first_lines
 unfolding step
@@ -163,13 +160,15 @@ played-up m (line ∷ more) all h = played-up (step m line).after more (All-tail
 begins-up : (r : RamTst) → IsUp (initialised r)
 begins-up r e = cc
 
-pub script_up : (number : ℕ) (defect : Option Fault) → IsUp ((played (started job_config defect) (script number)).after.modules.ram)
+pub script_up : LinesAreOfForms → (number : ℕ) (defect : Option Fault) → IsUp ((played (started job_config defect) (script number)).after.modules.ram)
 unfolding script step
-script_up number defect =
+script_up forms number defect =
     let first = line_with (event.Ram ram_calls.Init) [] in
-    let more : List Line = line_with (event.Fls fls_calls.Init) [] ∷ line_with (event.Ram ram_calls.Allow) [] ∷ lines_behind 19997 number in
+    let drawn = lines_behind 19997 number in
+    let more : List Line = line_with (event.Fls fls_calls.Init) [] ∷ line_with (event.Ram ram_calls.Allow) [] ∷ drawn in
+    let all = All-append KeepsUp first_lines drawn keeps_first (All-weaker IsOfAForm KeepsUp keeps_form drawn (forms 19997 number)) in
     played-up (step (started job_config defect) first).after more
-    (All-tail KeepsUp first more (script_all KeepsUp keeps_first (of_number KeepsUp keeps_forms) number)) (begins-up (started job_config defect).modules.ram)
+    (All-tail KeepsUp first more all) (begins-up (started job_config defect).modules.ram)
 
 -- ---- what it tells
 

@@ -8,7 +8,10 @@ ghost use Rattle.mt_replay.specs.Inner.Comparing.{Stands, Caused, Compares, Keep
 
 use crate::input::Input;
 use mt_port::{Failed, Source};
-use mt_verify::{Tally, common};
+use mt_verify::{
+    Tally, common, equal_texts, expected_ends, feeds_end_open_lines, given_ends, line_counts,
+    mismatches,
+};
 
 /// What is known of the given text: all of it is expected so far; another line was found, with its number; it ended where
 /// the last line feed alone is lacking, and this line is another one if more is expected; or the source failed.
@@ -88,6 +91,8 @@ impl Comparison {
         ensures drained { IsDrained self.old input.old → IsDrained self.new input.new }
         ensures few { self.new.tally ≤ self.old.tally + feeds text.now }
     {
+        mismatches();
+        given_ends();
         let mut done = 0;
         while done < text.len() {
             match input.fill(source) {
@@ -120,6 +125,7 @@ impl Comparison {
         ensures drained { IsDrained self.old input.old → IsDrained self.new input.new }
         ensures few { self.new.tally ≤ self.old.tally + feeds text.now }
     {
+        given_ends();
         match self.state {
             State::Matching => self.compare_bytes(input, source, text),
             State::Lacking(line) => {
@@ -145,6 +151,10 @@ impl Comparison {
         ensures caused { (faults : ℕ) → Caused self faults (S.faults source.old) → VerdictCaused result faults (S.faults source.new) }
         ensures none { IsDrained self input.old → OnErr result (input.new ≡ []) }
     {
+        expected_ends();
+        equal_texts();
+        feeds_end_open_lines();
+        line_counts();
         match self.state {
             State::Matching => match input.fill(source) {
                 Ok(true) => Ok(Verdict::Differs(self.tally.other_line())),

@@ -25,7 +25,7 @@ use arrayvec::ArrayVec;
 use mt_fls::running_calls_keep_the_board as fls_keeps_the_board;
 use mt_port::{Bench, PlainSource, Shape, Source};
 use mt_ram::running_calls_keep_the_board as ram_keeps_the_board;
-use mt_text::{Line, entry_text};
+use mt_text::{Line, entry_text, trace_lines_stand_in_order};
 use mt_window::{Entry, EventLog, Reply};
 use mt_word::Width;
 
@@ -87,6 +87,7 @@ fn compare_answer<S: Source>(
     ensures drained { IsDrained comparison.old input.old → IsDrained comparison.new input.new }
     ensures few { comparison.new.tally ≤ comparison.old.tally + (length log.now + 1) }
 {
+    trace_lines_stand_in_order();
     compare_entries(comparison, input, source, log, width, number);
     comparison.compare(
         input,

@@ -19,7 +19,9 @@ use arrayvec::ArrayVec;
 use mt_fls::running_calls_keep_the_board as fls_keeps_the_board;
 use mt_port::{Bench, Failed, Shape, Sink, Source, put};
 use mt_ram::running_calls_keep_the_board as ram_keeps_the_board;
-use mt_text::{Line, LineText as CanonicalText, entry_text, push_line};
+use mt_text::{
+    Line, LineText as CanonicalText, entry_text, push_line, trace_lines_stand_in_order,
+};
 use mt_window::{Entry, EventLog, Reply};
 use mt_word::Width;
 
@@ -83,6 +85,7 @@ fn push_entries(page: &mut Page, entries: &[Entry], width: Width, number: u32)
     ensures text { page.new.items ≡ entries_text width number entries.now }
     ensures short { length page.new.items ≤ 16384 }
 {
+    trace_lines_stand_in_order();
     for entry in entries {
         push_text(page, &entry_text(number, entry, width));
     }
@@ -103,6 +106,7 @@ fn write_answer<K: Sink>(
         (entries_text width number (log.now ++ Entry.Own reply ∷ []))) }
     ensures cause { HasCause (K.faults sink.old) (K.faults sink.new) result }
 {
+    trace_lines_stand_in_order();
     page.clear();
     push_entries(page, log.entries(), width, number);
     push_text(page, &entry_text(number, &Entry::Own(reply), width));

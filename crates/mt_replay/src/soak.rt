@@ -15,7 +15,10 @@ use crate::modules::Modules;
 use crate::status::Status;
 use crate::text::summary_text;
 use mt_fls::running_calls_keep_the_board as fls_keeps_the_board;
-use mt_gen::{ScriptLines, Summary, job_config};
+use mt_gen::{
+    ScriptLines, Summary, job_config, lines_are_of_forms, scripts_are_accepted,
+    scripts_have_20000_lines, summaries_are_sums,
+};
 use mt_port::{Bench, Sink};
 use mt_ram::{Ram, State, running_calls_keep_the_board as ram_keeps_the_board};
 use mt_text::Line;
@@ -71,6 +74,9 @@ fn soak_script<B: Bench>(modules: &mut Modules, board: &mut B, number: u32) -> S
     ensures ready { IsReady job_shape (machine (B.state board.new) modules.new) }
     ensures defect { (B.state board.new).defect ≡ (B.state board.old).defect }
 {
+    scripts_have_20000_lines();
+    scripts_are_accepted();
+    summaries_are_sums();
     let mut lines = ScriptLines::new(number);
     let mut line = Line::new();
     let mut log = EventLog::new();
@@ -105,6 +111,7 @@ pub fn soak_job<K: Sink, B: Bench>(
     ensures board { (B.state board.new).defect ≡ (B.state board.old).defect }
     ensures free { IsLeftFree (B.state board.old) (B.state board.new) }
 {
+    lines_are_of_forms();
     let Ok(config) = job_config(alloc) else {
         return Status::NoMemory;
     };

@@ -18,6 +18,7 @@ use mt_cut::longest_runs_are_least;
 use mt_fls::{
     running_calls_keep_the_board as fls_keeps_the_board, waits_of_running_calls as fls_waits,
 };
+use mt_gen::scripts_are_accepted;
 use mt_locate::{explaining_is_tested, faults_are_listed_once, faults_of_the_slice_are_listed};
 use mt_port::{Bench, Sink, Source};
 use mt_ram::{
@@ -25,7 +26,7 @@ use mt_ram::{
     services_leave_setting, tests_leave_no_trace, waits_of_running_calls as ram_waits,
 };
 use mt_seq::attempts_on_sound_memory;
-use mt_text::number_of;
+use mt_text::{number_of, reading_is_spelling, spelled_lines_are_accepted};
 use std::alloc::Global;
 
 // What a word asks for.
@@ -122,6 +123,10 @@ fn promise()
     faults_are_listed_once();
     ram_waits();
     fls_waits();
+    // Lines that are read are accepted, and so are generated ones.
+    reading_is_spelling();
+    spelled_lines_are_accepted();
+    scripts_are_accepted();
     // On sound memory tests leave no trace.
     accepted_is_taken();
     attempts_on_sound_memory();

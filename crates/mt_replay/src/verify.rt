@@ -29,6 +29,7 @@ use crate::text::{differs_line, same_line};
 use crate::verifying::read_script;
 use mt_conf::Config;
 use mt_port::{Bench, Failed, PlainSource, Shape, Sink, Source};
+use mt_verify::whole_lines;
 use std::alloc::Global;
 
 // Writes how the texts compare, or that the source failed.
@@ -65,6 +66,7 @@ fn judge_trace<S: Source, B: Bench>(
     ensures cause { VerdictCaused result (S.faults source.old) (S.faults source.new) }
     ensures none { OnErr result (input.new ≡ []) }
 {
+    whole_lines();
     let mut comparison = Comparison::new();
     replay_lines(
         kept,

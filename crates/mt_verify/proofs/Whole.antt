@@ -3,7 +3,8 @@ use Rattle.std.proofs.Common.{ℕ, ◌<◌, ◌≡◌, ◌≢◌, inl, inr, List
 use Rattle.std.specs.List.{AllByRecursion, onto_first}
 use Rattle.std.proofs.lemmas.Bool.{cases_eq}
 use Rattle.mt_verify.specs.Lines.{feeds, lines}
-use Rattle.mt_verify.specs.Laws.{HasOpenLine, HasNoEmptyLine, LinesEndAtFeeds, LinesJoin, FeedsMakeWhole, WholeTextsJoin, WholeTextsHaveTheirFeeds}
+use Rattle.mt_verify.specs.Laws.{HasOpenLine, LinesEndAtFeeds, LinesJoin, FeedsMakeWhole, WholeTextsJoin, WholeTextsHaveTheirFeeds}
+use Rattle.mt_verify.specs.Inner.OpenLines.{FeedsEndOpenLines}
 use Rattle.mt_verify.proofs.Lines.{lines-nil, lines-feed, lines-byte, Lined, lined, feeds-feed, feeds-byte}
 
 pub line_first : LinesEndAtFeeds
@@ -99,6 +100,6 @@ open_behind x (y ∷ shared) rest h = elim (cases_eq x 10) [
   | inr other ↦ open_behind y shared rest (past_byte x (y ∷ (shared ++ 10 ∷ rest)) other h)
 ]
 
-pub open_line : (shared rest : List ℕ) → HasNoEmptyLine (shared ++ 10 ∷ rest) → HasOpenLine shared
+pub open_line : FeedsEndOpenLines
 open_line [] rest h = absurd (no_feed_first rest h)
 open_line (x ∷ shared) rest h = open_behind x shared rest (behind (lines (x ∷ (shared ++ 10 ∷ rest))) h)

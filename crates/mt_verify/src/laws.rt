@@ -4,6 +4,7 @@ ghost use Rattle.mt_verify.specs.Laws.{FirstOtherIsLeast, NoOtherWhereEqual};
 ghost use Rattle.mt_verify.specs.Laws.{LinesEndAtFeeds, LinesJoin, FeedsMakeWhole, WholeTextsJoin, WholeTextsHaveTheirFeeds};
 ghost use Rattle.mt_verify.specs.Laws.{MismatchesTell, ExpectedEnds, GivenEnds, GivenEndsInALine, GivenEndsBeforeAFeed, GivenEndsBetweenLines};
 ghost use Rattle.mt_verify.specs.Laws.{EqualTextsHaveNoOther, LastFeedMayLack};
+ghost use Rattle.mt_verify.specs.Inner.OpenLines.{FeedsEndOpenLines};
 
 /// The first other line is the least at which two lists differ, and there is none exactly where they are equal.
 pub fn first_other_is_least()
@@ -49,4 +50,9 @@ pub fn given_ends()
 pub fn equal_texts()
     ensures equal { EqualTextsHaveNoOther }
     ensures feed { LastFeedMayLack }
+{}
+
+/// Where no line is empty, what stands before a line feed has a byte, and the last one is no line feed.
+pub fn feeds_end_open_lines()
+    ensures { FeedsEndOpenLines }
 {}

@@ -10,8 +10,8 @@ mod texts;
 
 pub use compare::common;
 pub use laws::{
-    equal_texts, expected_ends, first_other_is_least, given_ends, line_counts, mismatches,
-    whole_lines,
+    equal_texts, expected_ends, feeds_end_open_lines, first_other_is_least, given_ends,
+    line_counts, mismatches, whole_lines,
 };
 pub use tally::Tally;
 pub use texts::first_other;

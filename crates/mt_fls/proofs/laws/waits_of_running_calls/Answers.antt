@@ -1,4 +1,3 @@
-use Rattle.std.proofs.Common.{◌≡◌, ℕ, None, Some}
 use Rattle.mt_window.specs.Waits.{DropsInTime}
 use Rattle.mt_fls.specs.Event.{of_pass, of_block}
 use Rattle.mt_fls.proofs.laws.waits_of_running_calls.Goals as goal

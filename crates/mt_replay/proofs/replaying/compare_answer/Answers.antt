@@ -13,7 +13,7 @@ compare-requires-clause-few g c =
 
 pub returns-clause-compares : goal.returns-clause-compares
 returns-clause-compares g c =
-    compares_answer c.args.width c.args.number c.args.log.now (Own c.args.reply) c.deref.result.now _ _ _ _ _ _ c.compare_entries.ensures.compares (c.deref.ensures.0 ∙ c.entry_text.ensures) c.compare.ensures.stands
+    compares_answer c.trace_lines_stand_in_order.ensures.more c.args.width c.args.number c.args.log.now (Own c.args.reply) c.deref.result.now _ _ _ _ _ _ c.compare_entries.ensures.compares (c.deref.ensures.0 ∙ c.entry_text.ensures) c.compare.ensures.stands
 
 pub returns-clause-cause : goal.returns-clause-cause
 returns-clause-cause g c = λ first h. c.compare.ensures.caused first (c.compare_entries.ensures.cause first h)

@@ -14,6 +14,6 @@ loop-entry-preserved c =
     let k = c.loop-entry.entry-index in
     let long = ap (λ (l : List ℕ). length l) c.push_text.ensures ∙ length-append c.loop-entry.page.items c.deref.result.now in
     record {
-      text = c.push_text.ensures ∙ entries_text-more c.args.width c.args.number all k _ c.loop-entry.page.items c.deref.result.now c.loop-entry-test.true c.loop-entry.invariant.text (c.deref.ensures.0 ∙ c.entry_text.ensures);
+      text = c.push_text.ensures ∙ entries_text-more c.trace_lines_stand_in_order.ensures.more c.args.width c.args.number all k _ c.loop-entry.page.items c.deref.result.now c.loop-entry-test.true c.loop-entry.invariant.text (c.deref.ensures.0 ∙ c.entry_text.ensures);
       short = omega (arith, long, c.loop-entry.invariant.short, c.deref.ensures.1);
     }

@@ -17,7 +17,7 @@ returns-clause-ok g c =
     ∙ c.push_text.ensures
     ∙ ap (λ (l : List ℕ). c.push_entries.new.page.items ++ l) (c.deref.ensures.0 ∙ c.entry_text.ensures)
     ∙ ap (λ (l : List ℕ). l ++ entry_text c.args.width c.args.number (Own c.args.reply)) (c.push_entries.ensures.text ∙ entries)
-    ∙ sym (entries_text-then c.args.width c.args.number c.args.log.now (Own c.args.reply)) in
+    ∙ sym (entries_text-then c.trace_lines_stand_in_order.ensures.more c.args.width c.args.number c.args.log.now (Own c.args.reply)) in
     on_ok_weaker c.put.result (subst (Appends (g.K.Sink.held c.args.sink.now) (g.K.Sink.held c.put.new.sink)) page) c.put.ensures.ok
 
 pub returns-clause-err : goal.returns-clause-err
@@ -28,5 +28,5 @@ returns-clause-err g c =
     ∙ c.push_text.ensures
     ∙ ap (λ (l : List ℕ). c.push_entries.new.page.items ++ l) (c.deref.ensures.0 ∙ c.entry_text.ensures)
     ∙ ap (λ (l : List ℕ). l ++ entry_text c.args.width c.args.number (Own c.args.reply)) (c.push_entries.ensures.text ∙ entries)
-    ∙ sym (entries_text-then c.args.width c.args.number c.args.log.now (Own c.args.reply)) in
+    ∙ sym (entries_text-then c.trace_lines_stand_in_order.ensures.more c.args.width c.args.number c.args.log.now (Own c.args.reply)) in
     on_err_weaker c.put.result (subst (AppendsFront (g.K.Sink.held c.args.sink.now) (g.K.Sink.held c.put.new.sink)) page) c.put.ensures.err

@@ -12,7 +12,7 @@ overall_of-requires g c =
     let defect = (g.B.Port.state c.args.board.now).defect in
     let m : Machine = machine (g.B.Port.state c.power_up.new.board) c.in-Ok-power_up.modules in
     let m' : Machine = machine (g.B.Port.state c.soak_script-summary.new.board) c.soak_script-summary.new.modules in
-    soaked_up c.args.number defect m m' c.soak_script-summary.result _ _ (c.in-Ok-power_up.ensures.ok ∙ ap (λ (k : Config). started k defect) c.in-Ok.ensures.value) c.soak_script-summary.ensures.sums
+    soaked_up c.lines_are_of_forms.ensures c.args.number defect m m' c.soak_script-summary.result _ _ (c.in-Ok-power_up.ensures.ok ∙ ap (λ (k : Config). started k defect) c.in-Ok.ensures.value) c.soak_script-summary.ensures.sums
 
 pub returns-in-Ok-power_up-clause-gives : goal.returns-in-Ok-power_up-clause-gives
 returns-in-Ok-power_up-clause-gives g c =

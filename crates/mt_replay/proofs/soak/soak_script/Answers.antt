@@ -5,23 +5,21 @@ use Rattle.mt_text.specs.declared.line.Line.{Line}
 use Rattle.mt_text.specs.Accepted.{IsAccepted}
 use Rattle.mt_gen.specs.declared.summary.Summary.{Summary}
 use Rattle.mt_gen.specs.Script.{job_shape, script}
-use Rattle.mt_gen.proofs.ScriptLemmas.{length-script}
-use Rattle.mt_gen.proofs.SummaryLemmas.{lines-summary_of}
 use Rattle.mt_replay.specs.Machine.{Machine, machine, step}
-use Rattle.mt_replay.proofs.Soaks.{accepted_script, Soaking-none, Soaking-next, Soaking-all, ready_there, none-ran, none-served, lines-with_line}
+use Rattle.mt_replay.proofs.Soaks.{Soaking-none, Soaking-next, Soaking-all, ready_there, none-lines, none-ran, none-served, lines-with_line}
 use Rattle.mt_replay.proofs.soak.soak_script.Goals as goal
 
 pub loop-lines-init : goal.loop-lines-init
 loop-lines-init g c =
     let lines = c.new-lines.ensures in
     let sums = c.new-summary.ensures in
-    let none : c.new-summary.result.lines ≡ 0 = ap (λ (s : Summary). s.lines) sums ∙ lines-summary_of 0 [] in
-    let all : length c.new-lines.result ≡ 20000 = ap length lines ∙ length-script c.args.number in
+    let none : c.new-summary.result.lines ≡ 0 = ap (λ (s : Summary). s.lines) sums ∙ none-lines in
+    let all : length c.new-lines.result ≡ 20000 = ap length lines ∙ c.scripts_have_20000_lines.ensures c.args.number in
     let ran : c.new-summary.result.ran ≡ 0 = ap (λ (s : Summary). s.ran) sums ∙ none-ran in
     let served : c.new-summary.result.served ≡ 0 = ap (λ (s : Summary). s.served) sums ∙ none-served in
     record {
       ready = c.requires;
-      accepted = subst (λ (l : List Line). All (IsAccepted job_shape) l) (sym lines) (accepted_script c.args.number);
+      accepted = subst (λ (l : List Line). All (IsAccepted job_shape) l) (sym lines) (c.scripts_are_accepted.ensures.accepted c.args.number);
       soaking = Soaking-none (machine (g.B.Port.state c.args.board.now) c.args.modules.now) (script c.args.number) c.new-lines.result c.new-summary.result (g.B.Port.tape c.args.board.now) lines sums;
       count = omega (arith, none, all);
       ran = omega (arith, ran);
@@ -50,7 +48,7 @@ loop-lines-preserved g c =
     record {
       ready = ready_there job_shape m m' before.ready.shape here.ready;
       accepted = All-tail (IsAccepted job_shape) line c.take.new.self all;
-      soaking = Soaking-next first m m' (script c.args.number) c.loop-lines.lines c.take.new.self line _ _ _ _ _ before.soaking is here.adds;
+      soaking = Soaking-next c.summaries_are_sums.ensures first m m' (script c.args.number) c.loop-lines.lines c.take.new.self line _ _ _ _ _ before.soaking is here.adds;
       count = omega (arith, more, left, before.count);
       ran = omega (arith, more, here.little.ran, before.ran);
       served = omega (arith, more, here.little.served, before.served);

@@ -36,7 +36,12 @@ returns c =
     let ram = c.running_calls_keep_the_board.ensures in
     let fls = c.running_calls_keep_the_board-2.ensures in
     record {
-      latency = are_served_in_time (record { ram = ram_calls waits.tick waits.full waits.partial; fls = fls_calls fls-waits.tick fls-waits.foreground });
+      latency = are_served_in_time (record {
+        ram = ram_calls waits.tick waits.full waits.partial;
+        fls = fls_calls fls-waits.tick fls-waits.foreground;
+        reading = record { spelled = c.reading_is_spelling.ensures.ok; accepted = c.spelled_lines_are_accepted.ensures };
+        script = c.scripts_are_accepted.ensures.accepted;
+      });
       transparent = leaves_no_trace (leave_no_trace traces.tick traces.full traces.partial settings.tick settings.full settings.partial c.services_leave_setting.ensures
           (boards_stay ram.tick ram.full ram.partial fls.tick fls.foreground))
           (record { stays = c.attempts_on_sound_memory.ensures.stays; passes = c.attempts_on_sound_memory.ensures.passes }) c.accepted_is_taken.ensures;

@@ -1,4 +1,4 @@
-use Rattle.std.proofs.Common.{◌∙◌, ap, subst, arith, List}
+use Rattle.std.proofs.Common.{◌∙◌, ap, subst, arith}
 use Rattle.mt_port.specs.Board.{Logs}
 use Rattle.mt_window.specs.Slices.{attempted}
 use Rattle.mt_blocks.specs.Slices.{Piece}

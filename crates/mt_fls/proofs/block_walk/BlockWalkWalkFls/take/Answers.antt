@@ -1,8 +1,6 @@
-use Rattle.std.proofs.Common.{◌∙◌, ◌≡◌, ◌≤◌, false, List, Option, sym, ap, subst, arith}
-use Rattle.mt_blocks.specs.declared.pass.Position.{Position}
-use Rattle.mt_blocks.specs.Slices.{Piece, test_rest, IsValid}
+use Rattle.std.proofs.Common.{◌∙◌, false, ap, arith}
+use Rattle.mt_blocks.specs.Slices.{Piece, test_rest}
 use Rattle.mt_blocks.specs.Laws.{word_count}
-use Rattle.mt_seq.specs.Compare.{compare_hold}
 use Rattle.mt_fls.specs.State.{FlsTst, fgnd_spans}
 use Rattle.mt_fls.specs.Event.{compared}
 use Rattle.mt_fls.proofs.Walks.{next_of_block, first_is, rest_is, hold_is, block_taken}

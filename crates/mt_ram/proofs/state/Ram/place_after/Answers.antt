@@ -4,7 +4,6 @@ use Rattle.mt_blocks.specs.declared.config.Block.{Block}
 use Rattle.mt_blocks.specs.Slices.{AreSpans, IsValid, next_of, or_start}
 use Rattle.mt_blocks.specs.Accepted.{spans_of}
 use Rattle.mt_ram.specs.State.{set_of, spans_in}
-use Rattle.mt_blocks.proofs.Tests.{or_start-valid}
 use Rattle.mt_ram.proofs.state.Ram.place_after.Goals as goal
 
 pub returns-clause-valid : goal.returns-clause-valid
@@ -14,4 +13,4 @@ returns-clause-valid c =
     let next = ap (λ (l : List Block). or_start (next_of c.set-set.result.now.atomic (spans_of l) c.args.at)) c.as_slice.ensures
     ∙ ap (λ (x : ParamSet). or_start (next_of x.atomic (spans_of x.blocks) c.args.at)) c.set-set.ensures.set in
     subst (IsValid (set_of r).atomic (spans_in r)) (sym (c.or_start.ensures ∙ ap or_start c.following.ensures.next ∙ next))
-    (or_start-valid (set_of r).atomic (spans_in r) c.args.at spans c.requires)
+    (c.passes_go_on.ensures (set_of r).atomic (spans_in r) c.args.at spans c.requires).again

@@ -14,7 +14,7 @@ returns-in-Ok-false-clause-stands g c = λ expected given h.
     let done = c.loop-done.done in
     let first = matched c.args.self.now.state c.args.self.now.tally expected given _ c.requires.matching h in
     let far = so_far c.args.self.now.tally c.loop-done.self.tally done text expected given _ _ inv.tally first (inv.begun expected given) in
-    stands_ended c.ended-self.result c.loop-done.self.tally done text _ expected given _ _ (take_rest text done) far (rw c.in-Ok-false.field-0-test at c.in-Ok-false.ensures.ok) c.ended-self.ensures
+    stands_ended c.given_ends.ensures.answer c.ended-self.result c.loop-done.self.tally done text _ expected given _ _ (take_rest text done) far (rw c.in-Ok-false.field-0-test at c.in-Ok-false.ensures.ok) c.ended-self.ensures
 
 pub returns-in-Err-clause-stands : goal.returns-in-Err-clause-stands
 returns-in-Err-clause-stands g c = λ expected given h.
@@ -36,7 +36,7 @@ returns-then-not-is_empty-clause-stands g c = λ expected given h.
     let done = c.loop-done.done in
     let first = matched c.args.self.now.state c.args.self.now.tally expected given _ c.requires.matching h in
     let far = so_far c.args.self.now.tally c.loop-done.self.tally done text expected given _ _ inv.tally first (inv.begun expected given) in
-    stands_differs c.share-same.result c.loop-done.self.tally c.share-same.new.self.tally done c.other_line.result text _ _ c.share-same.new.input expected given _ (g.S.Source.left c.fill.new.source)
+    stands_differs c.mismatches.ensures c.share-same.result c.loop-done.self.tally c.share-same.new.self.tally done c.other_line.result text _ _ c.share-same.new.input expected given _ (g.S.Source.left c.fill.new.source)
     (take_rest text done) far (rw c.in-Ok-true.field-0-test at c.in-Ok-true.ensures.ok) c.share-same.ensures.shares
     (let more = c.if-done-text.true in omega (arith, more, ap length (take_rest text done), length-drop done text))
     (omega (arith, some_bytes c.held.result.now c.if-not-is_empty.ensures, ap length c.held.ensures)) c.other_line.ensures.line
