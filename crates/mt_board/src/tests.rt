@@ -178,8 +178,8 @@ fn hands_out(rt: &impl Abort, board: &mut SimBoard, rows: &[Row])
     requires none { (sim_state board.old).left ≡ [] }
     requires inside { 0 < (sim_state board.old).shape.ram }
 {
-    let mut requests = requests();
-    board.begin_event(&mut requests);
+    let mut asked = requests();
+    board.begin_event(&mut asked);
     for (reads, take, expected) in rows {
         assert!(rt; board.made() < 100);
         read_times(board, *reads);
@@ -193,8 +193,8 @@ fn sees_urgent(rt: &impl Abort, board: &mut SimBoard)
     requires none { (sim_state board.old).left ≡ [] }
     requires inside { 0 < (sim_state board.old).shape.ram }
 {
-    let mut requests = requests();
-    board.begin_event(&mut requests);
+    let mut asked = requests();
+    board.begin_event(&mut asked);
     assert!(rt; !board.urgent_due());
     read_times(board, 5);
     assert!(rt; board.urgent_due());

@@ -210,7 +210,8 @@ AreServedInTime (Some asks.Locate) defect = Unit {0}
 AreServedInTime (Some asks.Verify) defect = Unit {0}
 AreServedInTime (Some (asks.Soak number)) defect = All ServesInTime (soaked number defect).steps
 
--- On sound memory no test of a replay touches a word of the application; where no block is destructive, the application finds a plain memory.
+-- On sound memory no test of a replay touches a word of the application, but that destructive blocks are filled; the application finds a plain
+-- memory on which its operations and these fills are done.
 abbrev pub LeavesNoTrace : Option Asked → Option Fault → Type 0
 LeavesNoTrace (Some (asks.Job forms.Run)) defect = ReplaysLeaveNoTrace defect × ReplaysArePlain defect
 LeavesNoTrace asked defect = Unit {0}
