@@ -19,9 +19,7 @@ use arrayvec::ArrayVec;
 use mt_fls::running_calls_keep_the_board as fls_keeps_the_board;
 use mt_port::{Bench, Failed, Shape, Sink, Source, put};
 use mt_ram::running_calls_keep_the_board as ram_keeps_the_board;
-use mt_text::{
-    Line, LineText as CanonicalText, entry_text, push_line, trace_lines_stand_in_order,
-};
+use mt_text::{Line, LineText as CanonicalText, entry_text, push_line, trace_lines_stand_in_order};
 use mt_window::{Entry, EventLog, Reply};
 use mt_word::Width;
 
