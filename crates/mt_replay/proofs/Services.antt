@@ -34,7 +34,7 @@ use Rattle.mt_fls.specs.declared.state.State.TheVariants as fls_state
 use Rattle.mt_fls.specs.State.{FlsTst}
 use Rattle.mt_fls.specs.Table as fls_table
 use Rattle.mt_window.specs.Rows.{Answers, Refuses, next_in}
-use Rattle.mt_ram.specs.Table.{Service, reply_to, GetTestResultPerBlock, GetTestResult, GetAlgParams, GetTestAlgorithm, GetNumberOfTestedCells, cell, telling, after}
+use Rattle.mt_ram.specs.Table.{GetTestResultPerBlock, GetTestResult, GetAlgParams, GetTestAlgorithm, GetNumberOfTestedCells, cell, telling, after}
 
 pub stays_result : (r : RamTst) → after r GetTestResult ≡ r
 stays_result r = of r.state
