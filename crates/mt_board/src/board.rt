@@ -2,7 +2,7 @@
 
 ghost use Rattle.std.specs.Prelude.{◌≡◌, ◌<◌, ◌≤◌, ◌+◌, ◌-◌, ◌^◌, ℕ, length, slice_index, slice_set, reverse, Some, None, OnOk, OnErr, true, false, [], ◌∷◌, ◌++◌};
 ghost use Rattle.std.specs.Option.{option_copied};
-ghost use Rattle.mt_port.specs.Board.{is_due};
+ghost use Rattle.mt_port.specs.Board.{IsQuiet, is_due};
 ghost use Rattle.mt_board.specs.Requests.{least_urgent};
 
 use crate::stores::Stores;
@@ -151,6 +151,17 @@ impl SimBoard {
         }
     }
 
+    // Whether nothing but the count tells accesses of the slice that pass and leave the words.
+    fn is_quiet(&self, first: u32, n: u32) -> bool
+        ensures { result ≡ true → IsQuiet (sim_state self.now) (sim_tape self.now) first n }
+    {
+        self.tape.is_full()
+            && match &self.stores {
+                Some(stores) => stores.spares(first, n),
+                None => true,
+            }
+    }
+
     // A flash word.
     fn flash_word(&self, addr: u32) -> u64
         requires { addr < (sim_state self.now).shape.flash }
@@ -253,6 +264,14 @@ impl Port for SimBoard {
 
     fn made(&self) -> u32 {
         self.count
+    }
+
+    fn skip(&mut self, first: u32, n: u32, count: u32) -> bool {
+        let quiet = self.is_quiet(first, n);
+        if quiet {
+            self.count += count;
+        }
+        quiet
     }
 
     fn shape(&self) -> Shape {

@@ -1,6 +1,7 @@
 //! The words of a board that has been powered up.
 
-ghost use Rattle.std.specs.Prelude.{◌≡◌, ◌<◌, ◌≤◌, length, replicate, slice_index, slice_set, All, IfOk, OnOk, OnErr, None};
+ghost use Rattle.std.specs.Prelude.{◌≡◌, ◌<◌, ◌≤◌, length, replicate, slice_index, slice_set, All, IfOk, OnOk, OnErr, None, true};
+ghost use Rattle.mt_fault.specs.Projection.{Spares};
 ghost use Rattle.mt_port.specs.Board.{IsWithinLimits, fitting, begun_words};
 ghost use Rattle.mt_word.specs.Word.{Fits};
 ghost use Rattle.mt_fault.specs.Memory.{IsSound, after_access, injection};
@@ -113,6 +114,13 @@ impl Stores {
         ensures flash { SameFlash self.old self.new }
     {
         self.cells.write(addr, word);
+    }
+
+    /// Whether no address of the fault, if one is there, is one of the n words from `first` on.
+    pub fn spares(&self, first: u32, n: u32) -> bool
+        ensures { result ≡ true → Spares self.now.cells.fault first n }
+    {
+        self.cells.spares(first, n)
     }
 
     /// A flash word.

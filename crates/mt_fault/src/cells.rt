@@ -1,6 +1,7 @@
 //! The memory as it runs: one step forward at each access.
 
-ghost use Rattle.std.specs.Prelude.{◌≡◌, ◌<◌, ◌≤◌, ◌∷◌, [], ℕ, length, IfOk, OnOk, OnErr, Some, None, replicate};
+ghost use Rattle.std.specs.Prelude.{◌≡◌, ◌<◌, ◌≤◌, ◌∷◌, [], ℕ, length, IfOk, OnOk, OnErr, Some, None, replicate, true};
+ghost use Rattle.mt_fault.specs.Projection.{Spares};
 ghost use Rattle.mt_word.specs.Word.{Fits};
 ghost use Rattle.mt_fault.specs.History.{Read, Write};
 ghost use Rattle.mt_fault.specs.Faulty.{answer, words_after};
@@ -8,7 +9,7 @@ ghost use Rattle.mt_fault.specs.Memory.{Memory, IsSound, after_access, first_wor
 
 use crate::access::{read_word, settle, write_word};
 use crate::fault::{Fault, FaultRefusal};
-use crate::placement::{is_in_range, is_same_word};
+use crate::placement::{is_elsewhere, is_in_range, is_same_word};
 use mt_word::{NoMemory, Width, Words};
 use std::alloc::Global;
 use std::marker::Model;
@@ -75,6 +76,17 @@ impl Cells {
         ensures sound { IsSound self.new }
     {
         write_word(&mut self.words, &self.fault, addr, word);
+    }
+
+    /// Whether no address of the fault, if one is there, is one of the n words from `first` on.
+    #[tactic(auto, using(crate::proofs::PlacementLemmas::spares))]
+    pub fn spares(&self, first: u32, n: u32) -> bool
+        ensures { result ≡ true → Spares self.now.fault first n }
+    {
+        match self.fault {
+            Some(fault) => is_elsewhere(fault, first, n),
+            None => true,
+        }
     }
 
     /// Puts a fault there, where it is in range, its two addresses differ and none is there; the first of these that

@@ -1,6 +1,6 @@
 //! The tape of a board.
 
-ghost use Rattle.std.specs.Prelude.{◌≡◌, Some, [], is_some, true};
+ghost use Rattle.std.specs.Prelude.{◌≡◌, Some, None, [], is_some, true};
 ghost use Rattle.std.specs.Option.{option_copied};
 ghost use Rattle.mt_port.specs.Tape.{recorded};
 
@@ -99,6 +99,13 @@ impl Tape {
         } else {
             self.touches.push(touch);
         }
+    }
+
+    /// Whether it tells no more.
+    pub fn is_full(&self) -> bool
+        ensures { result ≡ true → self.now ≡ None }
+    {
+        !self.told
     }
 
     /// The accesses, where they are told.

@@ -12,3 +12,4 @@ pub mod Urgent
 pub mod Spans
 pub mod SpanRuns
 pub mod Told
+pub mod SparedSlices

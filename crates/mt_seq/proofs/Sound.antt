@@ -253,7 +253,7 @@ cell_of f (suc n) j d h =
     ]
 
 -- no access of a sequence is at another address than those of its slice
-abbrev Off : ℕ → Item → Type 0
+abbrev pub Off : ℕ → Item → Type 0
 Off a item = place item ≢ a
 
 place_act : (width : Width) (addr back : ℕ) (act : Act) → place (act_on width addr back act) ≡ addr
@@ -262,7 +262,7 @@ place_act width addr back WriteFlipped = refl
 place_act width addr back ReadPlain = refl
 place_act width addr back ReadFlipped = refl
 
-abbrev Outside : Slice → ℕ → Type 0
+abbrev pub Outside : Slice → ℕ → Type 0
 Outside slice a = (c : ℕ) → c < slice.n → slice.first + c ≢ a
 
 off_saving : (policy : Policy) (slice : Slice) (a : ℕ) → Outside slice a → All (Off a) (saving policy slice)
@@ -292,7 +292,7 @@ left_out first slice items a all =
 outside_below : (slice : Slice) (a : ℕ) → a < slice.first → Outside slice a
 outside_below slice a h c lt e = omega arith
 
-outside_above : (slice : Slice) (a : ℕ) → slice.first + slice.n ≤ a → Outside slice a
+pub outside_above : (slice : Slice) (a : ℕ) → slice.first + slice.n ≤ a → Outside slice a
 outside_above slice a h c lt e = omega arith
 
 -- inside or outside
@@ -327,7 +327,7 @@ unchanged words NonDestructive fill slice a is = refl
 unchanged words Destructive fill slice a is = rw is refl
 
 -- no access of a sequence is outside its slice
-off_sequence : (b : Board) (job : Job) (slice : Slice) (steps : List Step) (a : ℕ) → All (λ (t : Step). t.cell < slice.n) steps → Outside slice a → All (Off a) (accesses_of b job slice steps)
+pub off_sequence : (b : Board) (job : Job) (slice : Slice) (steps : List Step) (a : ℕ) → All (λ (t : Step). t.cell < slice.n) steps → Outside slice a → All (Off a) (accesses_of b job slice steps)
 unfolding accesses_of
 off_sequence b job slice steps a in' out =
     let saved = saved_words job.policy b.fault b.words slice in

@@ -1,7 +1,9 @@
 -- What sequences answer on sound memory, and under a fault that the algorithm catches, and what a flash sequence finds.
-use Rattle.std.specs.Prelude.{ℕ, ◌+◌, ◌*◌, ◌<◌, ◌≤◌, ◌≡◌, nat_le, nat_lt, All, not, Bool, true, false, if◌then◌else◌, List, map, length, slice_index, Option, Some, None, ◌&&◌}
+use Rattle.std.specs.Prelude.{ℕ, ◌+◌, ◌*◌, ◌<◌, ◌≤◌, ◌≡◌, ◌≢◌, nat_le, nat_lt, All, not, Bool, true, false, if◌then◌else◌, List, map, length, slice_index, Option, Some, None, ◌&&◌}
 use Rattle.std.specs.List.{range_with_len}
 use Rattle.mt_fault.specs.History.{History}
+use Rattle.mt_fault.specs.declared.fault.Fault.{Fault}
+use Rattle.mt_fault.specs.Projection.{Spares}
 use Rattle.mt_fault.specs.Items.{Item, passes}
 use Rattle.mt_plan.specs.declared.algorithm.Policy.{Policy}
 use Rattle.mt_plan.specs.declared.algorithm.Policy.TheVariants.{NonDestructive, Destructive}
@@ -17,7 +19,7 @@ use Rattle.mt_seq.specs.declared.sequence.Slice.{Slice}
 use Rattle.mt_seq.specs.declared.sequence.Job.{Job}
 use Rattle.mt_seq.specs.declared.sequence.Verdict.TheVariants.{Pass, Fail}
 use Rattle.mt_seq.specs.Compare.{comparison, compare_touches, compare_hold}
-use Rattle.mt_seq.specs.Sequence.{saved_words, testing, sequence, verdict_of, sequence_verdict, sequence_words, sequence_hold}
+use Rattle.mt_seq.specs.Sequence.{saved_words, testing, sequence, verdict_of, sequence_verdict, sequence_words, sequence_hold, IsSoundSlice}
 
 -- whether an address is one of the slice
 abbrev pub is_in : Slice → ℕ → Bool
@@ -137,3 +139,13 @@ abbrev pub NothingIsFoundWhereAllEqual : Type 0
 NothingIsFoundWhereAllEqual =
     (flash : List ℕ) (first copy n : ℕ)
     → (comparison flash first copy n ≡ None → EqualsCopy flash first copy n) × (EqualsCopy flash first copy n → comparison flash first copy n ≡ None)
+
+-- no address of the fault is one of the slice
+abbrev pub SparesSlice : Option Fault → Slice → Type 0
+SparesSlice fault slice = Spares fault slice.first slice.n
+
+-- where the fault spares the slice, a sequence that keeps the words passes, and the words stay
+abbrev pub SparedSlicesPass : Type 0
+SparedSlicesPass =
+    (b : Board) (job : Job) (slice : Slice) → IsSound b → IsAccepted job.alg → job.policy ≡ NonDestructive → IsSoundSlice b.shape.ram slice → SparesSlice b.fault slice
+    → (sequence_verdict b job slice ≡ Pass) × (sequence_words b job slice ≡ b.words)

@@ -74,8 +74,8 @@ pub(crate) fn restore<P: Port>(port: &mut P, slice: Slice, saved: &[u64])
     }
 }
 
-/// All accesses of the sequence.
-fn make_whole<P: Port>(port: &mut P, alg: &Algorithm, frame: Frame, slice: Slice) -> bool
+/// All accesses of the sequence, one after another.
+fn make_each<P: Port>(port: &mut P, alg: &Algorithm, frame: Frame, slice: Slice) -> bool
     requires held { (P.state port.old).held ≡ true }
     requires job { IsSoundJob (P.state port.old).shape.width (job_of alg.now frame) }
     requires slice { IsSoundSlice (P.state port.old).shape.ram slice }
@@ -87,6 +87,25 @@ fn make_whole<P: Port>(port: &mut P, alg: &Algorithm, frame: Frame, slice: Slice
     let hold = hold_of(alg, frame.policy, u32::from(slice.n));
     course.run(port, alg, frame, hold);
     !course.differs()
+}
+
+/// All accesses of the sequence. Where the port may skip those of a test that keeps the words, none is made.
+fn make_whole<P: Port>(port: &mut P, alg: &Algorithm, frame: Frame, slice: Slice) -> bool
+    requires held { (P.state port.old).held ≡ true }
+    requires job { IsSoundJob (P.state port.old).shape.width (job_of alg.now frame) }
+    requires slice { IsSoundSlice (P.state port.old).shape.ram slice }
+    requires room { (P.state port.old).count + sequence_hold (job_of alg.now frame) slice.n < 2 ^ 32 }
+    ensures { Makes (sequence (P.state port.old) (job_of alg.now frame) slice)
+        (P.state port.old) (P.state port.new) (P.tape port.old) (P.tape port.new) result }
+{
+    match frame.policy {
+        Policy::NonDestructive => {
+            let n = u32::from(slice.n);
+            let hold = hold_of(alg, Policy::NonDestructive, n);
+            port.skip(slice.first, n, hold) || make_each(port, alg, frame, slice)
+        }
+        Policy::Destructive => make_each(port, alg, frame, slice),
+    }
 }
 
 /// So many accesses of the sequence, and where the algorithm has begun, the writes of the saved words.

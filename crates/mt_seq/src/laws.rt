@@ -1,6 +1,6 @@
 //! Laws of sequences.
 
-ghost use Rattle.mt_seq.specs.Laws.{SoundMemoryPasses, SoundMemoryStays, CaughtFaultsFail, SequencesAreShort, HoldsAreLengths, ComparisonsArePairs, NothingIsFoundWhereAllEqual};
+ghost use Rattle.mt_seq.specs.Laws.{SparedSlicesPass, SoundMemoryPasses, SoundMemoryStays, CaughtFaultsFail, SequencesAreShort, HoldsAreLengths, ComparisonsArePairs, NothingIsFoundWhereAllEqual};
 ghost use Rattle.mt_seq.specs.Laws.{SequencesBegin, SequencesGoOn, SequencesEnd, AttemptsAreCounted, AttemptsAreShort, AttemptsAreTold, NoAttemptIsEmpty, DroppedAttemptsServe, DroppedAttemptsStay, UrgentWaitsAreShort, WholeAttemptsPass};
 ghost use Rattle.mt_seq.specs.Told.{AnswersMakeTheSequence, SavedWordsAreWrittenBack, ToldSequencesAreHolds};
 
@@ -65,4 +65,9 @@ pub fn urgent_requests_wait_shortly()
 pub fn comparisons_are_exact()
     ensures pairs { ComparisonsArePairs }
     ensures nothing { NothingIsFoundWhereAllEqual }
+{}
+
+/// On a slice that the fault spares a sequence that keeps the words passes, and the words stay.
+pub fn spared_slices_pass()
+    ensures { SparedSlicesPass }
 {}
