@@ -2,7 +2,7 @@
 
 ghost use Rattle.std.specs.Prelude.{◌≡◌, ◌<◌, ◌≤◌, ◌+◌, ◌-◌, ◌^◌, ℕ, length, slice_index, slice_set, reverse, Some, None, OnOk, OnErr, true, false, [], ◌∷◌, ◌++◌};
 ghost use Rattle.std.specs.Option.{option_copied};
-ghost use Rattle.mt_port.specs.Board.{IsQuiet, is_due};
+ghost use Rattle.mt_port.specs.Board.{is_due};
 ghost use Rattle.mt_board.specs.Requests.{least_urgent};
 
 use crate::stores::Stores;
@@ -72,6 +72,7 @@ impl SimBoard {
     ghost use Rattle.std.specs.declared.option.Option.{Option};
     ghost use Rattle.mt_word.specs.Word.{Fits};
     ghost use Rattle.mt_fault.specs.History.{Read, Write};
+    ghost use Rattle.mt_fault.specs.Projection.{cells_of_fault};
     ghost use Rattle.mt_port.specs.Board.{after, answered};
     ghost use Rattle.mt_board.specs.Board.{unpowered, sim_state, sim_tape};
 
@@ -151,15 +152,14 @@ impl SimBoard {
         }
     }
 
-    // Whether nothing but the count tells accesses of the slice that pass and leave the words.
-    fn is_quiet(&self, first: u32, n: u32) -> bool
-        ensures { result ≡ true → IsQuiet (sim_state self.now) (sim_tape self.now) first n }
+    // The cells of a slice that the fault names.
+    fn cells_of_fault(&self, first: u32, n: u8) -> ArrayVec<u8, 2>
+        ensures { result.items ≡ cells_of_fault (sim_state self.now).fault first n }
     {
-        self.tape.is_full()
-            && match &self.stores {
-                Some(stores) => stores.spares(first, n),
-                None => true,
-            }
+        match &self.stores {
+            Some(stores) => stores.cells_of_fault(first, n),
+            None => ArrayVec::new(),
+        }
     }
 
     // A flash word.
@@ -266,12 +266,17 @@ impl Port for SimBoard {
         self.count
     }
 
-    fn skip(&mut self, first: u32, n: u32, count: u32) -> bool {
-        let quiet = self.is_quiet(first, n);
-        if quiet {
-            self.count += count;
+    fn cells_to_test(&self, first: u32, n: u8, count: u32) -> Option<ArrayVec<u8, 2>> {
+        if self.tape.is_over_after(count) {
+            Some(self.cells_of_fault(first, n))
+        } else {
+            None
         }
-        quiet
+    }
+
+    fn count_up_to(&mut self, count: u32) {
+        self.count = count;
+        self.tape.end();
     }
 
     fn shape(&self) -> Shape {

@@ -1,12 +1,13 @@
 //! The words of a board that has been powered up.
 
-ghost use Rattle.std.specs.Prelude.{◌≡◌, ◌<◌, ◌≤◌, length, replicate, slice_index, slice_set, All, IfOk, OnOk, OnErr, None, true};
-ghost use Rattle.mt_fault.specs.Projection.{Spares};
+ghost use Rattle.std.specs.Prelude.{◌≡◌, ◌<◌, ◌≤◌, length, replicate, slice_index, slice_set, All, IfOk, OnOk, OnErr, None};
 ghost use Rattle.mt_port.specs.Board.{IsWithinLimits, fitting, begun_words};
 ghost use Rattle.mt_word.specs.Word.{Fits};
 ghost use Rattle.mt_fault.specs.Memory.{IsSound, after_access, injection};
+ghost use Rattle.mt_fault.specs.Projection.{cells_of_fault};
 ghost use Rattle.mt_fault.proofs.SoundLemmas.{IsSound-prop};
 
+use arrayvec::ArrayVec;
 use mt_fault::{Cells, Fault, FaultRefusal};
 use mt_port::Shape;
 use mt_word::{NoMemory, Words, flip};
@@ -116,11 +117,11 @@ impl Stores {
         self.cells.write(addr, word);
     }
 
-    /// Whether no address of the fault, if one is there, is one of the n words from `first` on.
-    pub fn spares(&self, first: u32, n: u32) -> bool
-        ensures { result ≡ true → Spares self.now.cells.fault first n }
+    /// The cells of the n words from `first` on that the fault names, from the lowest up; none if no fault is there.
+    pub fn cells_of_fault(&self, first: u32, n: u8) -> ArrayVec<u8, 2>
+        ensures { result.items ≡ cells_of_fault self.now.cells.fault first n }
     {
-        self.cells.spares(first, n)
+        self.cells.cells_of_fault(first, n)
     }
 
     /// A flash word.

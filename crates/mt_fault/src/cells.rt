@@ -1,22 +1,24 @@
 //! The memory as it runs: one step forward at each access.
 
-ghost use Rattle.std.specs.Prelude.{◌≡◌, ◌<◌, ◌≤◌, ◌∷◌, [], ℕ, length, IfOk, OnOk, OnErr, Some, None, replicate, true};
-ghost use Rattle.mt_fault.specs.Projection.{Spares};
+ghost use Rattle.std.specs.Prelude.{◌≡◌, ◌<◌, ◌≤◌, ◌∷◌, [], ℕ, length, IfOk, OnOk, OnErr, Some, None, replicate};
 ghost use Rattle.mt_word.specs.Word.{Fits};
 ghost use Rattle.mt_fault.specs.History.{Read, Write};
 ghost use Rattle.mt_fault.specs.Faulty.{answer, words_after};
 ghost use Rattle.mt_fault.specs.Memory.{Memory, IsSound, after_access, first_words, injection};
+ghost use Rattle.mt_fault.specs.Projection.{cells_of_fault};
 
 use crate::access::{read_word, settle, write_word};
 use crate::fault::{Fault, FaultRefusal};
-use crate::placement::{is_elsewhere, is_in_range, is_same_word};
+use crate::placement::{cells_of_fault, is_in_range, is_same_word};
+use arrayvec::ArrayVec;
 use mt_word::{NoMemory, Width, Words};
 use std::alloc::Global;
 use std::marker::Model;
 
 /// Words of one width, with at most one fault. Contracts see it as a `Memory`: the width, the fault, the stored words.
 ///
-/// Each access takes the time of one or two words, whatever the size. No call tells the fault.
+/// Each access takes the time of one or two words, whatever the size. Of the fault only `cells_of_fault` says anything: which words
+/// it names.
 #[derive(Drop)]
 pub struct Cells {
     words: Words,
@@ -78,14 +80,13 @@ impl Cells {
         write_word(&mut self.words, &self.fault, addr, word);
     }
 
-    /// Whether no address of the fault, if one is there, is one of the n words from `first` on.
-    #[tactic(auto, using(crate::proofs::PlacementLemmas::spares))]
-    pub fn spares(&self, first: u32, n: u32) -> bool
-        ensures { result ≡ true → Spares self.now.fault first n }
+    /// The cells of the n words from `first` on that the fault names, counted from 0, from the lowest up; none if no fault is there.
+    pub fn cells_of_fault(&self, first: u32, n: u8) -> ArrayVec<u8, 2>
+        ensures { result.items ≡ cells_of_fault self.now.fault first n }
     {
         match self.fault {
-            Some(fault) => is_elsewhere(fault, first, n),
-            None => true,
+            Some(fault) => cells_of_fault(fault, first, n),
+            None => ArrayVec::new(),
         }
     }
 

@@ -158,4 +158,9 @@ impl Port for PlainBoard {
     fn shape(&self) -> Shape {
         self.shape
     }
+
+    fn count_up_to(&mut self, count: u32) {
+        self.count = count;
+        self.tape.end();
+    }
 }

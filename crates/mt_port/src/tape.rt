@@ -2,7 +2,7 @@
 
 ghost use Rattle.std.specs.Prelude.{◌≡◌, Some, None, [], is_some, true};
 ghost use Rattle.std.specs.Option.{option_copied};
-ghost use Rattle.mt_port.specs.Tape.{recorded};
+ghost use Rattle.mt_port.specs.Tape.{is_over, recorded};
 
 use crate::board::Touch;
 use arrayvec::ArrayVec;
@@ -101,11 +101,18 @@ impl Tape {
         }
     }
 
-    /// Whether it tells no more.
-    pub fn is_full(&self) -> bool
-        ensures { result ≡ true → self.now ≡ None }
+    /// Whether the list is none after so many more accesses.
+    pub fn is_over_after(&self, count: u32) -> bool
+        ensures { result ≡ is_over 256 self.now count }
     {
-        !self.told
+        !self.told || self.touches.len() as u64 + u64::from(count) > 256
+    }
+
+    /// Tells no access from now on.
+    pub fn end(&mut self)
+        ensures { self.new ≡ None }
+    {
+        self.told = false;
     }
 
     /// The accesses, where they are told.

@@ -12,4 +12,7 @@ pub mod Urgent
 pub mod Spans
 pub mod SpanRuns
 pub mod Told
-pub mod SparedSlices
+pub mod NamedLists
+pub mod NamedRuns
+pub mod Apart
+pub mod NamedCells

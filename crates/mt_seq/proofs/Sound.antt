@@ -1,9 +1,9 @@
 -- Sequences on sound memory, and the join with coverage.
 use Rattle.std.proofs.Common.{ℕ, zero, suc, ◌+◌, ◌-◌, ◌<◌, ◌≤◌, ◌≡◌, ◌≢◌, ◌==◌, ◌⊎◌, inl, inr, Bool, true, false, cond, if◌then◌else◌, List, [], ◌∷◌, ◌++◌, map, length, get_or, refl, ap, sym, ◌∙◌, arith, append-nil, take, Option, Some, None}
 use Rattle.std.specs.Prelude.{All, nat_le, nat_lt}
-use Rattle.std.specs.List.{range_with_len}
+use Rattle.std.specs.List.{filter, range_with_len}
 use mathlib.Core.Bool.{◌&&◌}
-use Rattle.std.proofs.lemmas.Bool.{eq-eqb, ne_eqb, cases_eq, cases_lt, lt-ltb, le-ltb, le-leb, lt-leb}
+use Rattle.std.proofs.lemmas.Bool.{eq-eqb, ne_eqb, cases_Bool, cases_eq, cases_lt, both_ways, lt-ltb, le-ltb, le-leb, lt-leb}
 use Rattle.std.proofs.lemmas.List.{map-append}
 use Rattle.std.proofs.lemmas.List.Elements.{All-tail, All-map, All-append, All-cons, All-nil, All-take}
 use Rattle.std.proofs.lemmas.List.{length-map}
@@ -15,8 +15,11 @@ use Rattle.mt_seq.proofs.Lengths.{length-cells, length-saving}
 use Rattle.mt_word.specs.declared.Width.{Width}
 use Rattle.mt_word.specs.Word.{complement_of}
 use Rattle.mt_fault.specs.declared.fault.Fault.{Fault}
-use Rattle.mt_fault.specs.History.{Read, Write, History, plain}
-use Rattle.mt_fault.specs.Faulty.{answer, words_after, stored}
+use Rattle.mt_fault.specs.History.{Access, Read, Write, History, plain}
+use Rattle.mt_fault.specs.Faulty.{address, answer, words_after, stored}
+use Rattle.mt_fault.specs.Projection.{is_of_fault}
+use Rattle.mt_fault.proofs.Others.{answer_plain}
+use Rattle.mt_fault.proofs.Own.{answer_own}
 use Rattle.mt_plan.specs.declared.algorithm.Act.{Act}
 use Rattle.mt_plan.specs.declared.algorithm.Act.TheVariants.{WritePlain, WriteFlipped, ReadPlain, ReadFlipped}
 use Rattle.mt_plan.specs.declared.algorithm.Step.{Step}
@@ -40,7 +43,7 @@ use Rattle.mt_seq.proofs.Attempts.{dropped}
 use Rattle.mt_seq.proofs.Underway.{IsLook, early_looks}
 
 -- lists whose items are never checked
-pub Unchecked : Item → Type 0
+abbrev pub Unchecked : Item → Type 0
 Unchecked item = (fault : Option Fault) (first : List ℕ) (h : History) → agrees fault first h item ≡ true
 
 passes-unchecked : {X : Type 0} (f : X → Item) → ((x : X) (fault : Option Fault) (first : List ℕ) (h : History) → agrees fault first h (f x) ≡ true)
@@ -89,12 +92,12 @@ caught_fails b job slice caught =
 -- ---- sound memory passes
 
 -- the word that a write of a cell wrote
-abbrev worth : Width → ℕ → Bool → ℕ
+abbrev pub worth : Width → ℕ → Bool → ℕ
 worth width back false = back
 worth width back true = complement_of width back
 
 -- a cell holds what the last write to it wrote, if there was one
-abbrev Holds : Width → ℕ → Option Bool → ℕ → Type 0
+abbrev pub Holds : Width → ℕ → Option Bool → ℕ → Type 0
 Holds width back None word = Unit {0}
 Holds width back (Some wrote) word = word ≡ worth width back wrote
 
@@ -102,17 +105,21 @@ Holds width back (Some wrote) word = word ≡ worth width back wrote
 abbrev after_write : (ℕ → Option Bool) → ℕ → Bool → ℕ → Option Bool
 after_write u cell wrote j = if cell == j then Some wrote else u j
 
-sound_write : (width : Width) (first : List ℕ) (h : History) (base : ℕ) (back : ℕ → ℕ) (u : ℕ → Option Bool) (cell : ℕ) (wrote : Bool)
-    → ((j : ℕ) → Holds width (back j) (u j) (plain first h (base + j)))
-    → (j : ℕ) → Holds width (back j) (after_write u cell wrote j) (plain first (Write (base + cell) (worth width (back cell) wrote) ∷ h) (base + j))
-sound_write width first h base back u cell wrote holds j =
+-- the word of a cell is none of the fault's
+abbrev pub Other : Option Fault → ℕ → ℕ → Type 0
+Other fault base j = is_of_fault fault (base + j) ≡ false
+
+sound_write : (width : Width) (fault : Option Fault) (first : List ℕ) (h : History) (base : ℕ) (back : ℕ → ℕ) (u : ℕ → Option Bool) (cell : ℕ) (wrote : Bool)
+    → ((j : ℕ) → Other fault base j → Holds width (back j) (u j) (plain first h (base + j)))
+    → (j : ℕ) → Other fault base j → Holds width (back j) (after_write u cell wrote j) (plain first (Write (base + cell) (worth width (back cell) wrote) ∷ h) (base + j))
+sound_write width fault first h base back u cell wrote holds j o =
     elim (cases_eq cell j) [
       | inl e ↦ (let here : (cell == j) ≡ true = eq-eqb _ _ e in
           let at : (base + j == base + cell) ≡ true = eq-eqb _ _ (omega arith) in
           rw (here, at) (ap (λ (c : ℕ). worth width (back c) wrote) e))
       | inr e ↦ (let here : (cell == j) ≡ false = ne_eqb _ _ e in
           let at : (base + j == base + cell) ≡ false = ne_eqb _ _ (λ x. e (omega arith)) in
-          rw (here, at) (holds j))
+          rw (here, at) (holds j o))
     ]
 
 expected : (width : Width) (back : ℕ) (wrote : Option Bool) (flipped : Bool) (word : ℕ) → Holds width back wrote word → may_expect wrote flipped ≡ true → word ≡ worth width back flipped
@@ -142,49 +149,132 @@ cond_true : (b : Bool) (p q : Bool) → b ≡ true → cond b p q ≡ true → p
 cond_true true p q e f = f
 cond_true false p q e f = cc
 
--- what the rest of a plan needs
-abbrev Rest : Width → List ℕ → ℕ → (ℕ → ℕ) → List Step → Type 0
-Rest width first base back more =
-    (u : ℕ → Option Bool) (h : History) → ((j : ℕ) → steady j (u j) more ≡ true)
-    → ((j : ℕ) → Holds width (back j) (u j) (plain first h (base + j)))
-    → passes None first h (map (item_of width base back) more) ≡ true
+-- the accesses of the fault's words alone, and a history without all others
+abbrev pub own_items : Option Fault → List Item → List Item
+own_items fault items = filter (λ (x : Item). is_of_fault fault (place x)) items
 
-one_write : (width : Width) (first : List ℕ) (base : ℕ) (back : ℕ → ℕ) (more : List Step) → Rest width first base back more
-    → (u : ℕ → Option Bool) (h : History) (cell : ℕ) (wrote : Bool)
-    → ((j : ℕ) → cond (cell == j) (steady j (Some wrote) more) (steady j (u j) more) ≡ true)
-    → ((j : ℕ) → Holds width (back j) (u j) (plain first h (base + j)))
-    → passes None first (Write (base + cell) (worth width (back cell) wrote) ∷ h) (map (item_of width base back) more) ≡ true
-one_write width first base back more rest u h cell wrote st holds =
-    rest (after_write u cell wrote) (Write (base + cell) (worth width (back cell) wrote) ∷ h)
-    (λ j. steady_write (cell == j) j wrote (u j) more (st j))
-    (sound_write width first h base back u cell wrote holds)
+abbrev pub own_history : Option Fault → History → History
+own_history fault h = filter (λ (x : Access). is_of_fault fault (address x)) h
 
-one_read : (width : Width) (first : List ℕ) (base : ℕ) (back : ℕ → ℕ) (more : List Step) → Rest width first base back more
-    → (u : ℕ → Option Bool) (h : History) (cell : ℕ) (flipped : Bool)
-    → ((j : ℕ) → cond (cell == j) (may_expect (u j) flipped && steady j (u j) more) (steady j (u j) more) ≡ true)
-    → ((j : ℕ) → Holds width (back j) (u j) (plain first h (base + j)))
-    → ((plain first h (base + cell) == worth width (back cell) flipped) && passes None first (Read (base + cell) ∷ h) (map (item_of width base back) more)) ≡ true
-one_read width first base back more rest u h cell flipped st holds =
-    both _ true _ true
-    (eq-eqb _ _ (expected width (back cell) (u cell) flipped (plain first h (base + cell)) (holds cell)
-    (and_left _ _ (cond_true (cell == cell) (may_expect (u cell) flipped && steady cell (u cell) more) (steady cell (u cell) more) (eq-eqb cell cell refl) (st cell)))))
-    (rest u (Read (base + cell) ∷ h) (λ j. steady_read (cell == j) (may_expect (u j) flipped) (steady j (u j) more) (st j)) holds)
+-- What is answered at a word of the fault's goes by these alone, and at another word is as in plain memory.
+own_answer : (fault : Option Fault) (first : List ℕ) (h : History) (a : ℕ) → is_of_fault fault a ≡ true → answer fault first h a ≡ answer fault first (own_history fault h) a
+own_answer None first h a t = cc
+own_answer (Some f) first h a t = sym (answer_own f first h a t)
 
-one_step : (width : Width) (first : List ℕ) (base : ℕ) (back : ℕ → ℕ) (more : List Step) → Rest width first base back more
-    → (u : ℕ → Option Bool) (h : History) (cell : ℕ) (act : Act)
-    → ((j : ℕ) → steady j (u j) (record { cell = cell; act = act } ∷ more) ≡ true)
-    → ((j : ℕ) → Holds width (back j) (u j) (plain first h (base + j)))
-    → (agrees None first h (act_on width (base + cell) (back cell) act) && passes None first (access_of (act_on width (base + cell) (back cell) act) ∷ h) (map (item_of width base back) more)) ≡ true
-one_step width first base back more rest u h cell WritePlain st holds = one_write width first base back more rest u h cell false st holds
-one_step width first base back more rest u h cell WriteFlipped st holds = one_write width first base back more rest u h cell true st holds
-one_step width first base back more rest u h cell ReadPlain st holds = one_read width first base back more rest u h cell false st holds
-one_step width first base back more rest u h cell ReadFlipped st holds = one_read width first base back more rest u h cell true st holds
+pub other_answer : (fault : Option Fault) (first : List ℕ) (h : History) (a : ℕ) → is_of_fault fault a ≡ false → answer fault first h a ≡ plain first h a
+other_answer None first h a o = refl
+other_answer (Some f) first h a o = answer_plain f first h a o
 
-passes-plain : (width : Width) (first : List ℕ) (base : ℕ) (back : ℕ → ℕ) (steps : List Step) → Rest width first base back steps
+-- what the rest of a plan needs: it passes exactly where its accesses of the fault's words do
+abbrev pub Rest : Width → Option Fault → List ℕ → ℕ → (ℕ → ℕ) → List Step → Type 0
+Rest width fault first base back more =
+    (u : ℕ → Option Bool) (h : History) → ((j : ℕ) → Other fault base j → steady j (u j) more ≡ true)
+    → ((j : ℕ) → Other fault base j → Holds width (back j) (u j) (plain first h (base + j)))
+    → passes fault first h (map (item_of width base back) more) ≡ passes fault first (own_history fault h) (own_items fault (map (item_of width base back) more))
+
+-- a cell of the fault's is another than one that isn't
+apart : (fault : Option Fault) (base cell j : ℕ) → is_of_fault fault (base + cell) ≡ true → Other fault base j → cell ≢ j
+apart fault base cell j t o e = both_ways (is_of_fault fault (base + j)) o (ap (λ (k : ℕ). is_of_fault fault (base + k)) (sym e) ∙ t)
+
+past_true : (p x y : Bool) → p ≡ false → cond p x y ≡ true → y ≡ true
+past_true true x y e f = cc
+past_true false x y e f = f
+
+-- ---- a step on a word of the fault's
+
+own_write : (width : Width) (fault : Option Fault) (first : List ℕ) (base : ℕ) (back : ℕ → ℕ) (more : List Step) → Rest width fault first base back more
+    → (u : ℕ → Option Bool) (h : History) (cell word : ℕ) (wrote : Bool) → is_of_fault fault (base + cell) ≡ true
+    → ((j : ℕ) → Other fault base j → cond (cell == j) (steady j (Some wrote) more) (steady j (u j) more) ≡ true)
+    → ((j : ℕ) → Other fault base j → Holds width (back j) (u j) (plain first h (base + j)))
+    → passes fault first (Write (base + cell) word ∷ h) (map (item_of width base back) more)
+    ≡ passes fault first (own_history fault h) (own_items fault (Store (base + cell) word ∷ map (item_of width base back) more))
 unfolding passes
-passes-plain width first base back [] u h st holds = refl
-passes-plain width first base back (t ∷ more) u h st holds =
-    one_step width first base back more (passes-plain width first base back more) u h t.cell t.act st holds
+own_write width fault first base back more rest u h cell word wrote t st holds =
+    rest u (Write (base + cell) word ∷ h) (λ j o. past_true (cell == j) _ _ (ne_eqb cell j (apart fault base cell j t o)) (st j o))
+    (λ j o. let off : (base + j == base + cell) ≡ false = ne_eqb _ _ (λ e. apart fault base cell j t o (omega arith)) in rw off (holds j o))
+    ∙ ap (λ (p : Bool). passes fault first (cond p (Write (base + cell) word ∷ own_history fault h) (own_history fault h)) (own_items fault (map (item_of width base back) more))) t
+    ∙ sym (ap (λ (p : Bool). passes fault first (own_history fault h) (cond p (Store (base + cell) word ∷ own_items fault (map (item_of width base back) more)) (own_items fault (map (item_of width base back) more)))) t)
+
+own_read : (width : Width) (fault : Option Fault) (first : List ℕ) (base : ℕ) (back : ℕ → ℕ) (more : List Step) → Rest width fault first base back more
+    → (u : ℕ → Option Bool) (h : History) (cell word : ℕ) (flipped : Bool) → is_of_fault fault (base + cell) ≡ true
+    → ((j : ℕ) → Other fault base j → cond (cell == j) (may_expect (u j) flipped && steady j (u j) more) (steady j (u j) more) ≡ true)
+    → ((j : ℕ) → Other fault base j → Holds width (back j) (u j) (plain first h (base + j)))
+    → ((answer fault first h (base + cell) == word) && passes fault first (Read (base + cell) ∷ h) (map (item_of width base back) more))
+    ≡ passes fault first (own_history fault h) (own_items fault (Check (base + cell) word ∷ map (item_of width base back) more))
+unfolding passes
+own_read width fault first base back more rest u h cell word flipped t st holds =
+    both _ _ _ _ (ap (λ (w : ℕ). w == word) (own_answer fault first h (base + cell) t))
+    (rest u (Read (base + cell) ∷ h) (λ j o. past_true (cell == j) _ _ (ne_eqb cell j (apart fault base cell j t o)) (st j o)) holds
+    ∙ ap (λ (p : Bool). passes fault first (cond p (Read (base + cell) ∷ own_history fault h) (own_history fault h)) (own_items fault (map (item_of width base back) more))) t)
+    ∙ sym (ap (λ (p : Bool). passes fault first (own_history fault h) (cond p (Check (base + cell) word ∷ own_items fault (map (item_of width base back) more)) (own_items fault (map (item_of width base back) more)))) t)
+
+-- ---- a step on another word
+
+one_write : (width : Width) (fault : Option Fault) (first : List ℕ) (base : ℕ) (back : ℕ → ℕ) (more : List Step) → Rest width fault first base back more
+    → (u : ℕ → Option Bool) (h : History) (cell : ℕ) (wrote : Bool) → Other fault base cell
+    → ((j : ℕ) → Other fault base j → cond (cell == j) (steady j (Some wrote) more) (steady j (u j) more) ≡ true)
+    → ((j : ℕ) → Other fault base j → Holds width (back j) (u j) (plain first h (base + j)))
+    → passes fault first (Write (base + cell) (worth width (back cell) wrote) ∷ h) (map (item_of width base back) more)
+    ≡ passes fault first (own_history fault h) (own_items fault (Store (base + cell) (worth width (back cell) wrote) ∷ map (item_of width base back) more))
+unfolding passes
+one_write width fault first base back more rest u h cell wrote o' st holds =
+    rest (after_write u cell wrote) (Write (base + cell) (worth width (back cell) wrote) ∷ h)
+    (λ j o. steady_write (cell == j) j wrote (u j) more (st j o))
+    (sound_write width fault first h base back u cell wrote holds)
+    ∙ ap (λ (p : Bool). passes fault first (cond p (Write (base + cell) (worth width (back cell) wrote) ∷ own_history fault h) (own_history fault h)) (own_items fault (map (item_of width base back) more))) o'
+    ∙ sym (ap (λ (p : Bool). passes fault first (own_history fault h) (cond p (Store (base + cell) (worth width (back cell) wrote) ∷ own_items fault (map (item_of width base back) more)) (own_items fault (map (item_of width base back) more)))) o')
+
+one_read : (width : Width) (fault : Option Fault) (first : List ℕ) (base : ℕ) (back : ℕ → ℕ) (more : List Step) → Rest width fault first base back more
+    → (u : ℕ → Option Bool) (h : History) (cell : ℕ) (flipped : Bool) → Other fault base cell
+    → ((j : ℕ) → Other fault base j → cond (cell == j) (may_expect (u j) flipped && steady j (u j) more) (steady j (u j) more) ≡ true)
+    → ((j : ℕ) → Other fault base j → Holds width (back j) (u j) (plain first h (base + j)))
+    → ((answer fault first h (base + cell) == worth width (back cell) flipped) && passes fault first (Read (base + cell) ∷ h) (map (item_of width base back) more))
+    ≡ passes fault first (own_history fault h) (own_items fault (Check (base + cell) (worth width (back cell) flipped) ∷ map (item_of width base back) more))
+unfolding passes
+one_read width fault first base back more rest u h cell flipped o' st holds =
+    both _ true _ _
+    (eq-eqb _ _ (other_answer fault first h (base + cell) o' ∙ expected width (back cell) (u cell) flipped (plain first h (base + cell)) (holds cell o')
+    (and_left _ _ (cond_true (cell == cell) (may_expect (u cell) flipped && steady cell (u cell) more) (steady cell (u cell) more) (eq-eqb cell cell refl) (st cell o')))))
+    (rest u (Read (base + cell) ∷ h) (λ j o. steady_read (cell == j) (may_expect (u j) flipped) (steady j (u j) more) (st j o)) holds
+    ∙ ap (λ (p : Bool). passes fault first (cond p (Read (base + cell) ∷ own_history fault h) (own_history fault h)) (own_items fault (map (item_of width base back) more))) o')
+    ∙ sym (ap (λ (p : Bool). passes fault first (own_history fault h) (cond p (Check (base + cell) (worth width (back cell) flipped) ∷ own_items fault (map (item_of width base back) more)) (own_items fault (map (item_of width base back) more)))) o')
+
+one_step : (width : Width) (fault : Option Fault) (first : List ℕ) (base : ℕ) (back : ℕ → ℕ) (more : List Step) → Rest width fault first base back more
+    → (u : ℕ → Option Bool) (h : History) (cell : ℕ) (act : Act)
+    → ((j : ℕ) → Other fault base j → steady j (u j) (record { cell = cell; act = act } ∷ more) ≡ true)
+    → ((j : ℕ) → Other fault base j → Holds width (back j) (u j) (plain first h (base + j)))
+    → (agrees fault first h (act_on width (base + cell) (back cell) act) && passes fault first (access_of (act_on width (base + cell) (back cell) act) ∷ h) (map (item_of width base back) more))
+    ≡ passes fault first (own_history fault h) (own_items fault (act_on width (base + cell) (back cell) act ∷ map (item_of width base back) more))
+one_step width fault first base back more rest u h cell WritePlain st holds = elim (cases_Bool (is_of_fault fault (base + cell))) [
+  | inl t ↦ own_write width fault first base back more rest u h cell (back cell) false t st holds
+  | inr o ↦ one_write width fault first base back more rest u h cell false o st holds
+]
+one_step width fault first base back more rest u h cell WriteFlipped st holds = elim (cases_Bool (is_of_fault fault (base + cell))) [
+  | inl t ↦ own_write width fault first base back more rest u h cell (complement_of width (back cell)) true t st holds
+  | inr o ↦ one_write width fault first base back more rest u h cell true o st holds
+]
+one_step width fault first base back more rest u h cell ReadPlain st holds = elim (cases_Bool (is_of_fault fault (base + cell))) [
+  | inl t ↦ own_read width fault first base back more rest u h cell (back cell) false t st holds
+  | inr o ↦ one_read width fault first base back more rest u h cell false o st holds
+]
+one_step width fault first base back more rest u h cell ReadFlipped st holds = elim (cases_Bool (is_of_fault fault (base + cell))) [
+  | inl t ↦ own_read width fault first base back more rest u h cell (complement_of width (back cell)) true t st holds
+  | inr o ↦ one_read width fault first base back more rest u h cell true o st holds
+]
+
+pub passes-own : (width : Width) (fault : Option Fault) (first : List ℕ) (base : ℕ) (back : ℕ → ℕ) (steps : List Step) → Rest width fault first base back steps
+unfolding passes
+passes-own width fault first base back [] u h st holds = refl
+passes-own width fault first base back (t ∷ more) u h st holds =
+    one_step width fault first base back more (passes-own width fault first base back more) u h t.cell t.act st holds
+
+none_own : (items : List Item) → own_items None items ≡ []
+none_own [] = refl
+none_own (x ∷ xs) = none_own xs
+
+passes-none : (fault : Option Fault) (first : List ℕ) (h : History) → passes fault first h [] ≡ true
+unfolding passes
+passes-none fault first h = refl
 
 pub sound_passes : SoundMemoryPasses
 unfolding sequence_verdict sequence
@@ -192,10 +282,13 @@ sound_passes b job slice e accepted =
     let steps = steps_of job.alg slice.n in
     let saved = saved_words job.policy b.fault b.words slice in
     let front = history (saving job.policy slice) in
+    let tests : List Item = testing b.shape.width job slice saved steps in
     let st = (steady_plans job.alg slice.n accepted).steady in
     ap verdict_of (passes-sequence b job slice steps
-    ∙ ap (λ (f : Option Fault). passes f b.words front (testing b.shape.width job slice saved steps)) e
-    ∙ passes-plain b.shape.width b.words slice.first (back_of job saved) steps (λ j. None) front (λ j. st j) (λ j. tt))
+    ∙ ap (λ (f : Option Fault). passes f b.words front tests) e
+    ∙ passes-own b.shape.width None b.words slice.first (back_of job saved) steps (λ j. None) front (λ j o. st j) (λ j o. tt)
+    ∙ ap (passes None b.words (own_history None front)) (none_own tests)
+    ∙ passes-none None b.words (own_history None front))
 
 -- ---- the words that are left
 
@@ -265,11 +358,11 @@ place_act width addr back ReadFlipped = refl
 abbrev pub Outside : Slice → ℕ → Type 0
 Outside slice a = (c : ℕ) → c < slice.n → slice.first + c ≢ a
 
-off_saving : (policy : Policy) (slice : Slice) (a : ℕ) → Outside slice a → All (Off a) (saving policy slice)
+pub off_saving : (policy : Policy) (slice : Slice) (a : ℕ) → Outside slice a → All (Off a) (saving policy slice)
 off_saving NonDestructive slice a out = All-map (Off a) (λ (cell : ℕ). Look (slice.first + cell)) (cells slice.n) (λ k d h. out _ (cells_below slice.n k d h))
 off_saving Destructive slice a out = All-nil (Off a)
 
-off_testing : (width : Width) (job : Job) (slice : Slice) (saved : List ℕ) (steps : List Step) (a : ℕ) → Outside slice a → All (λ (t : Step). t.cell < slice.n) steps → All (Off a) (testing width job slice saved steps)
+pub off_testing : (width : Width) (job : Job) (slice : Slice) (saved : List ℕ) (steps : List Step) (a : ℕ) → Outside slice a → All (λ (t : Step). t.cell < slice.n) steps → All (Off a) (testing width job slice saved steps)
 off_testing width job slice saved steps a out in' =
     All-map (Off a) (item_of width slice.first (back_of job saved)) steps
     (λ k d h. λ e. out _ (in' k d h) (sym (place_act width _ _ (get_or steps k d).act) ∙ e))
@@ -284,7 +377,7 @@ left_in width first job slice saved front k h =
     ap (λ (l : History). plain first l (slice.first + k)) (history-append front (ending job slice saved))
     ∙ ended first slice.first (last_of job.policy job.fill saved) slice.n k (history front) h
 
-left_out : (first : List ℕ) (slice : Slice) (items : List Item) (a : ℕ) → All (Off a) items → plain first (history items) a ≡ get_or first a 0
+pub left_out : (first : List ℕ) (slice : Slice) (items : List Item) (a : ℕ) → All (Off a) items → plain first (history items) a ≡ get_or first a 0
 left_out first slice items a all =
     ap (λ (l : History). plain first l a) (sym (append-nil (history items)))
     ∙ plain_other first a items [] all
@@ -310,17 +403,17 @@ places slice a =
     ]
 
 -- the word that is left at an address
-abbrev left_at : List ℕ → Policy → ℕ → Slice → ℕ → ℕ
+abbrev pub left_at : List ℕ → Policy → ℕ → Slice → ℕ → ℕ
 left_at words NonDestructive fill slice a = get_or words a 0
 left_at words Destructive fill slice a = if is_in slice a then fill else get_or words a 0
 
-last_saved : (fault : Option Fault) (words : List ℕ) (policy : Policy) (fill : ℕ) (slice : Slice) (a : ℕ) → fault ≡ None → is_in slice a ≡ true → slice.first ≤ a → a - slice.first < slice.n
+last_saved : (fault : Option Fault) (words : List ℕ) (policy : Policy) (fill : ℕ) (slice : Slice) (a : ℕ) → answer fault words [] a ≡ get_or words a 0 → is_in slice a ≡ true → slice.first ≤ a → a - slice.first < slice.n
     → last_of policy fill (saved_words policy fault words slice) (a - slice.first) ≡ left_at words policy fill slice a
-last_saved fault words NonDestructive fill slice a none is from to =
+last_saved fault words NonDestructive fill slice a kept is from to =
     cell_of (λ (cell : ℕ). answer fault words [] (slice.first + cell)) slice.n (a - slice.first) 0 to
-    ∙ ap (λ (f : Option Fault). answer f words [] (slice.first + (a - slice.first))) none
-    ∙ ap (λ (k : ℕ). get_or words k 0) (let e : slice.first + (a - slice.first) ≡ a = omega arith in e)
-last_saved fault words Destructive fill slice a none is from to = rw is refl
+    ∙ ap (answer fault words []) (let e : slice.first + (a - slice.first) ≡ a = omega arith in e)
+    ∙ kept
+last_saved fault words Destructive fill slice a kept is from to = rw is refl
 
 unchanged : (words : List ℕ) (policy : Policy) (fill : ℕ) (slice : Slice) (a : ℕ) → is_in slice a ≡ false → get_or words a 0 ≡ left_at words policy fill slice a
 unchanged words NonDestructive fill slice a is = refl
@@ -336,15 +429,15 @@ off_sequence b job slice steps a in' out =
     (off_ending job slice saved a out)
 
 -- what stands at an address after accesses of the slice, and the writes that end a sequence
-left_word : (b : Board) (job : Job) (slice : Slice) (front : List Item) (a : ℕ) → b.fault ≡ None → (Outside slice a → All (Off a) front)
+pub left_word : (b : Board) (job : Job) (slice : Slice) (front : List Item) (a : ℕ) → answer b.fault b.words [] a ≡ get_or b.words a 0 → (Outside slice a → All (Off a) front)
     → plain b.words (history (front ++ ending job slice (saved_words job.policy b.fault b.words slice))) a ≡ left_at b.words job.policy job.fill slice a
-left_word b job slice front a none off =
+left_word b job slice front a kept off =
     let saved = saved_words job.policy b.fault b.words slice in
     elim (places slice a) [
       | inl p ↦ (let e : a ≡ slice.first + (a - slice.first) = omega (arith, p.1) in
           ap (plain b.words (history (front ++ ending job slice saved))) e
           ∙ left_in b.shape.width b.words job slice saved front (a - slice.first) p.2
-          ∙ last_saved b.fault b.words job.policy job.fill slice a none p.0 p.1 p.2)
+          ∙ last_saved b.fault b.words job.policy job.fill slice a kept p.0 p.1 p.2)
       | inr q ↦ left_out b.words slice (front ++ ending job slice saved) a (All-append (Off a) front (ending job slice saved) (off q.1) (off_ending job slice saved a q.1))
           ∙ unchanged b.words job.policy job.fill slice a q.0
     ]
@@ -368,7 +461,7 @@ left_front b job slice front none off =
     let items : List Item = front ++ ending job slice (saved_words job.policy b.fault b.words slice) in
     ap (λ (f : Option Fault). words_after f b.words (history items)) none
     ∙ plain_words b.words (history items)
-    ∙ map-range _ _ (λ a. left_word b job slice front a none (off a)) (range_with_len 0 (length b.words))
+    ∙ map-range _ _ (λ a. left_word b job slice front a (ap (λ (f : Option Fault). answer f b.words [] a) none) (off a)) (range_with_len 0 (length b.words))
     ∙ left_list b.words job.policy job.fill slice
 
 pub sound_stays : SoundMemoryStays

@@ -59,7 +59,7 @@ pub pieces_more : (f : ℕ → List Step) (k : ℕ) → flat_map f (cells (k + 1
 pieces_more f k =
     ap (λ (n : ℕ). flat_map f (cells n)) (add-one k) ∙ flat_map-append f (cells k) (k ∷ []) ∙ ap (λ (l : List Step). flat_map f (cells k) ++ l) (append-nil (f k))
 
-others_more : (base k : ℕ) → others base (cells (k + 1)) ≡ others base (cells k) ++ others base (k ∷ [])
+pub others_more : (base k : ℕ) → others base (cells (k + 1)) ≡ others base (cells k) ++ others base (k ∷ [])
 others_more base k = ap (λ (n : ℕ). others base (cells n)) (add-one k) ∙ filter-append (λ j. not (j == base)) (cells k) (k ∷ [])
 
 pub reads_more : (flipped : Bool) (base k : ℕ) → other_reads flipped base (cells (k + 1)) ≡ other_reads flipped base (cells k) ++ other_reads flipped base (k ∷ [])

@@ -1,2 +1,3 @@
 -- What only contracts between the functions of this crate cite.
 pub mod Ground
+pub mod Own

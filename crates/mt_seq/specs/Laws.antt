@@ -1,10 +1,10 @@
 -- What sequences answer on sound memory, and under a fault that the algorithm catches, and what a flash sequence finds.
-use Rattle.std.specs.Prelude.{ℕ, ◌+◌, ◌*◌, ◌<◌, ◌≤◌, ◌≡◌, ◌≢◌, nat_le, nat_lt, All, not, Bool, true, false, if◌then◌else◌, List, map, length, slice_index, Option, Some, None, ◌&&◌}
-use Rattle.std.specs.List.{range_with_len}
+use Rattle.std.specs.Prelude.{ℕ, ◌+◌, ◌*◌, ◌<◌, ◌≤◌, ◌≡◌, nat_le, nat_lt, All, not, Bool, true, false, if◌then◌else◌, List, [], map, length, slice_index, Option, Some, None, ◌&&◌}
+use Rattle.std.specs.List.{filter, range_with_len}
 use Rattle.mt_fault.specs.History.{History}
-use Rattle.mt_fault.specs.declared.fault.Fault.{Fault}
-use Rattle.mt_fault.specs.Projection.{Spares}
-use Rattle.mt_fault.specs.Items.{Item, passes}
+use Rattle.mt_fault.specs.Faulty.{words_after}
+use Rattle.mt_fault.specs.Items.{Item, history, passes, place}
+use Rattle.mt_fault.specs.Projection.{is_of_fault}
 use Rattle.mt_plan.specs.declared.algorithm.Policy.{Policy}
 use Rattle.mt_plan.specs.declared.algorithm.Policy.TheVariants.{NonDestructive, Destructive}
 use Rattle.mt_plan.specs.Plan.{steps_of, IsAccepted}
@@ -19,7 +19,7 @@ use Rattle.mt_seq.specs.declared.sequence.Slice.{Slice}
 use Rattle.mt_seq.specs.declared.sequence.Job.{Job}
 use Rattle.mt_seq.specs.declared.sequence.Verdict.TheVariants.{Pass, Fail}
 use Rattle.mt_seq.specs.Compare.{comparison, compare_touches, compare_hold}
-use Rattle.mt_seq.specs.Sequence.{saved_words, testing, sequence, verdict_of, sequence_verdict, sequence_words, sequence_hold, IsSoundSlice}
+use Rattle.mt_seq.specs.Sequence.{saved_words, testing, sequence, verdict_of, sequence_verdict, sequence_words, sequence_hold}
 
 -- whether an address is one of the slice
 abbrev pub is_in : Slice → ℕ → Bool
@@ -44,6 +44,15 @@ abbrev pub SoundMemoryStays : Type 0
 SoundMemoryStays =
     (b : Board) (job : Job) (slice : Slice) → b.fault ≡ None → IsAccepted job.alg
     → sequence_words b job slice ≡ left_words b.words job.policy slice job.fill
+
+-- A sequence that keeps the words comes to the same as its accesses of the words that the fault names, made alone: it passes exactly
+-- where they do, and it leaves the words that they leave. So accesses of all other words decide nothing.
+abbrev pub OwnAccessesDecide : Type 0
+OwnAccessesDecide =
+    (b : Board) (job : Job) (slice : Slice) → IsAccepted job.alg → job.policy ≡ NonDestructive →
+    let own = filter (λ (item : Item). is_of_fault b.fault (place item)) (sequence b job slice) in
+    (passes b.fault b.words [] (sequence b job slice) ≡ passes b.fault b.words [] own)
+    × (words_after b.fault b.words (history (sequence b job slice)) ≡ words_after b.fault b.words (history own))
 
 -- the algorithm's accesses of a sequence on a board
 abbrev pub tested : Board → Job → Slice → List Item
@@ -139,13 +148,3 @@ abbrev pub NothingIsFoundWhereAllEqual : Type 0
 NothingIsFoundWhereAllEqual =
     (flash : List ℕ) (first copy n : ℕ)
     → (comparison flash first copy n ≡ None → EqualsCopy flash first copy n) × (EqualsCopy flash first copy n → comparison flash first copy n ≡ None)
-
--- no address of the fault is one of the slice
-abbrev pub SparesSlice : Option Fault → Slice → Type 0
-SparesSlice fault slice = Spares fault slice.first slice.n
-
--- where the fault spares the slice, a sequence that keeps the words passes, and the words stay
-abbrev pub SparedSlicesPass : Type 0
-SparedSlicesPass =
-    (b : Board) (job : Job) (slice : Slice) → IsSound b → IsAccepted job.alg → job.policy ≡ NonDestructive → IsSoundSlice b.shape.ram slice → SparesSlice b.fault slice
-    → (sequence_verdict b job slice ≡ Pass) × (sequence_words b job slice ≡ b.words)

@@ -1,12 +1,14 @@
 //! A sequence that may be dropped where an urgent request falls due.
 
-ghost use Rattle.std.specs.Prelude.{◌≡◌, ◌<◌, ◌≤◌, ◌+◌, ◌-◌, ◌^◌, [], None, true, false, length, All, map, find, slice_index};
+ghost use Rattle.std.specs.Prelude.{◌≡◌, ◌<◌, ◌≤◌, ◌+◌, ◌-◌, ◌^◌, [], IfSome, None, true, false, length, All, map, find, slice_index};
 ghost use Rattle.std.specs.List.{range_with_len};
 ghost use Rattle.mt_word.specs.Word.{Fits};
 ghost use Rattle.mt_fault.specs.Items.{Store, passes};
+ghost use Rattle.mt_fault.specs.Projection.{cells_of_fault};
 ghost use Rattle.mt_plan.specs.Lists.{cells};
 ghost use Rattle.mt_plan.specs.Plan.{IsAccepted, steps_of};
 ghost use Rattle.mt_port.specs.Board.{Logs, is_due};
+ghost use Rattle.mt_port.specs.Tape.{is_over};
 ghost use Rattle.mt_seq.specs.Attempts.{attempt_length, attempt_touches, attempt_verdict, attempt_words, backed_out, dropped_at};
 ghost use Rattle.mt_seq.specs.Laws.{left_words};
 ghost use Rattle.mt_seq.specs.Makes.{Makes};
@@ -15,7 +17,9 @@ ghost use Rattle.mt_seq.specs.Stepping.{job_of};
 
 use crate::access::Access;
 use crate::course::Course;
+use crate::own::make_own;
 use crate::sequence::{Frame, Job, Slice, Verdict, verdict_from};
+use arrayvec::ArrayVec;
 use mt_plan::{Algorithm, Policy, hold_of, steps};
 use mt_port::Port;
 
@@ -89,7 +93,51 @@ fn make_each<P: Port>(port: &mut P, alg: &Algorithm, frame: Frame, slice: Slice)
     !course.differs()
 }
 
-/// All accesses of the sequence. Where the port may skip those of a test that keeps the words, none is made.
+/// The cells whose accesses decide a sequence of so many accesses, if the port says which they are. In a test that fills the cells
+/// all are made.
+fn deciding_cells<P: Port>(
+    port: &P,
+    policy: Policy,
+    slice: Slice,
+    hold: u32,
+) -> Option<ArrayVec<u8, 2>>
+    ensures keeps { IfSome result (λ cells. policy ≡ Policy.NonDestructive) }
+    ensures cells { IfSome result
+        (λ cells. cells.items ≡ cells_of_fault (P.state port.now).fault slice.first slice.n) }
+    ensures over { IfSome result (λ cells. is_over P.keeps (P.tape port.now) hold ≡ true) }
+{
+    match policy {
+        Policy::NonDestructive => port.cells_to_test(slice.first, slice.n, hold),
+        Policy::Destructive => None,
+    }
+}
+
+/// A sequence that keeps the words, of which the accesses of the fault's cells alone are made, and all are counted.
+fn make_decided<P: Port>(
+    port: &mut P,
+    alg: &Algorithm,
+    frame: Frame,
+    slice: Slice,
+    cells: &[u8],
+) -> bool
+    requires held { (P.state port.old).held ≡ true }
+    requires job { IsSoundJob (P.state port.old).shape.width (job_of alg.now frame) }
+    requires slice { IsSoundSlice (P.state port.old).shape.ram slice }
+    requires keeps { frame.policy ≡ Policy.NonDestructive }
+    requires cells { cells.now ≡ cells_of_fault (P.state port.old).fault slice.first slice.n }
+    requires few { length cells.now ≤ 2 }
+    requires over { is_over P.keeps (P.tape port.old) (sequence_hold (job_of alg.now frame) slice.n) ≡ true }
+    requires room { (P.state port.old).count + sequence_hold (job_of alg.now frame) slice.n < 2 ^ 32 }
+    ensures { Makes (sequence (P.state port.old) (job_of alg.now frame) slice)
+        (P.state port.old) (P.state port.new) (P.tape port.old) (P.tape port.new) result }
+{
+    let end = port.made() + hold_of(alg, frame.policy, u32::from(slice.n));
+    let good = make_own(port, alg, frame, slice, cells);
+    port.count_up_to(end);
+    good
+}
+
+/// All accesses of the sequence. If the port says which cells decide it, the accesses of these alone are made, and all are counted.
 fn make_whole<P: Port>(port: &mut P, alg: &Algorithm, frame: Frame, slice: Slice) -> bool
     requires held { (P.state port.old).held ≡ true }
     requires job { IsSoundJob (P.state port.old).shape.width (job_of alg.now frame) }
@@ -98,13 +146,10 @@ fn make_whole<P: Port>(port: &mut P, alg: &Algorithm, frame: Frame, slice: Slice
     ensures { Makes (sequence (P.state port.old) (job_of alg.now frame) slice)
         (P.state port.old) (P.state port.new) (P.tape port.old) (P.tape port.new) result }
 {
-    match frame.policy {
-        Policy::NonDestructive => {
-            let n = u32::from(slice.n);
-            let hold = hold_of(alg, Policy::NonDestructive, n);
-            port.skip(slice.first, n, hold) || make_each(port, alg, frame, slice)
-        }
-        Policy::Destructive => make_each(port, alg, frame, slice),
+    let hold = hold_of(alg, frame.policy, u32::from(slice.n));
+    match deciding_cells(port, frame.policy, slice, hold) {
+        Some(cells) => make_decided(port, alg, frame, slice, cells.as_slice()),
+        None => make_each(port, alg, frame, slice),
     }
 }
 

@@ -1,6 +1,6 @@
 //! Laws of sequences.
 
-ghost use Rattle.mt_seq.specs.Laws.{SparedSlicesPass, SoundMemoryPasses, SoundMemoryStays, CaughtFaultsFail, SequencesAreShort, HoldsAreLengths, ComparisonsArePairs, NothingIsFoundWhereAllEqual};
+ghost use Rattle.mt_seq.specs.Laws.{OwnAccessesDecide, SoundMemoryPasses, SoundMemoryStays, CaughtFaultsFail, SequencesAreShort, HoldsAreLengths, ComparisonsArePairs, NothingIsFoundWhereAllEqual};
 ghost use Rattle.mt_seq.specs.Laws.{SequencesBegin, SequencesGoOn, SequencesEnd, AttemptsAreCounted, AttemptsAreShort, AttemptsAreTold, NoAttemptIsEmpty, DroppedAttemptsServe, DroppedAttemptsStay, UrgentWaitsAreShort, WholeAttemptsPass};
 ghost use Rattle.mt_seq.specs.Told.{AnswersMakeTheSequence, SavedWordsAreWrittenBack, ToldSequencesAreHolds};
 
@@ -67,7 +67,8 @@ pub fn comparisons_are_exact()
     ensures nothing { NothingIsFoundWhereAllEqual }
 {}
 
-/// On a slice that the fault spares a sequence that keeps the words passes, and the words stay.
-pub fn spared_slices_pass()
-    ensures { SparedSlicesPass }
+/// Accesses of words that are none of the fault's decide nothing: a sequence that keeps the words comes to what its accesses of the
+/// fault's words come to.
+pub fn own_accesses_decide()
+    ensures { OwnAccessesDecide }
 {}

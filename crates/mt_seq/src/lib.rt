@@ -7,6 +7,7 @@ mod compare;
 mod course;
 mod indexing;
 mod laws;
+mod own;
 mod run;
 mod sequence;
 mod span;
@@ -18,8 +19,8 @@ pub use compare::run_compare;
 pub use indexing::access_at;
 pub use laws::{
     answers_make_the_sequence, attempts_are_counted, attempts_on_sound_memory, caught_faults_fail,
-    comparisons_are_exact, holds_are_lengths, sequences_are_short, sound_memory,
-    steps_make_the_sequence, urgent_requests_wait_shortly,
+    comparisons_are_exact, holds_are_lengths, own_accesses_decide, sequences_are_short,
+    sound_memory, steps_make_the_sequence, urgent_requests_wait_shortly,
 };
 pub use sequence::{Frame, Job, Slice, Verdict};
 pub use stepper::{Progress, Stepper};

@@ -63,7 +63,7 @@ fn make<P: Port>(port: &mut P, ground: Ground, saved: &[u64], cell: u8, act: Act
 
 /// What is done with a cell, where even cells have one act and odd cells another.
 #[inline(always)]
-fn act_at(even: Act, odd: Act, cell: u8) -> Act
+pub(crate) fn act_at(even: Act, odd: Act, cell: u8) -> Act
     ensures { result ≡ (if is_odd cell then odd else even) }
 {
     if cell % 2 == 1 { odd } else { even }
@@ -85,7 +85,7 @@ pub fn each_cell<P: Port>(port: &mut P, ground: Ground, saved: &[u64], even: Act
 }
 
 /// A word of the RAM, as the operations of an element see it.
-#[derive(Clone, Copy, Debug, PartialEq, Eq)]
+#[derive(Clone, Copy, Debug, Default, PartialEq, Eq)]
 pub struct Target {
     pub addr: u32,
     /// The background word.
@@ -129,7 +129,7 @@ fn operate<P: Port>(port: &mut P, op: Op, target: Target, good: bool) -> bool
 
 /// Makes operations on one word.
 #[inline(always)]
-fn operate_all<P: Port>(port: &mut P, ops: &[Op], target: Target, good: bool) -> bool
+pub(crate) fn operate_all<P: Port>(port: &mut P, ops: &[Op], target: Target, good: bool) -> bool
     requires target { IsTarget (P.state port.old) target }
     requires room { (P.state port.old).count + length ops.now < 2 ^ 32 }
     ensures { MakesToo (map (operation target) ops.now) (P.state port.old) (P.state port.new) (P.tape port.old)

@@ -1,0 +1,44 @@
+use Rattle.std.proofs.Common.{ℕ, ◌≡◌, ◌==◌, ◌+◌, Bool, true, false, List, [], ◌∷◌, ◌++◌, map, take, reverse, length, get_or, refl, arith, ap, sym, ◌∙◌, subst, append-nil, length-append}
+use Rattle.std.specs.Prelude.{All, if◌then◌else◌, not}
+use Rattle.std.specs.List.{flat_map}
+use Rattle.std.proofs.lemmas.List.{length-map, take_all}
+use Rattle.std.proofs.lemmas.List.Folds.{length-flat_map-take}
+use Rattle.std.proofs.lemmas.Option.{slice_get-get_or}
+use Rattle.mt_fault.specs.Faulty.{is_odd}
+use Rattle.mt_fault.specs.Items.{Item, Store}
+use Rattle.mt_march.specs.declared.march.Element.{Element}
+use Rattle.mt_march.specs.declared.march.Op.{Op}
+use Rattle.mt_march.specs.declared.march.Order.{Order}
+use Rattle.mt_plan.specs.declared.algorithm.Act.{Act}
+use Rattle.mt_plan.specs.declared.algorithm.Act.TheVariants.{WritePlain, WriteFlipped, ReadPlain, ReadFlipped}
+use Rattle.mt_plan.specs.Lists.{cells, others, read_act, write_act}
+use Rattle.mt_seq.specs.declared.own.Named.{Named}
+use Rattle.mt_seq.specs.Inner.Ground.{IsTarget}
+use Rattle.mt_seq.specs.Inner.Own.{AreTargets, at_base, off_base, own_each, own_element, own_ops, own_pair, own_pairs, turned}
+use Rattle.mt_seq.specs.Makes.{Makes}
+use Rattle.mt_seq.proofs.Makes.{Makes-append, Makes-nil, Makes-same}
+use Rattle.mt_seq.proofs.Spans.{others_more, others_none, others_one}
+use Rattle.mt_seq.proofs.NamedRuns.{Makes-acts, Makes-pieces, all_pieces, each_long, falling_targets, reads_by, reads_by_not, some_cell, targets_after, writes_by, writes_by_not}
+use Rattle.mt_seq.proofs.own.checkerboard.Goals as goal
+
+pub each-first_read-requires-clause-targets : goal.each-first_read-requires-clause-targets
+each-first_read-requires-clause-targets g c = targets_after c.args.named.now c.requires.targets c.each-first.ensures
+
+pub each-second-requires-clause-targets : goal.each-second-requires-clause-targets
+each-second-requires-clause-targets g c = targets_after c.args.named.now (targets_after c.args.named.now c.requires.targets c.each-first.ensures) c.each-first_read.ensures
+
+pub each-second_read-requires-clause-targets : goal.each-second_read-requires-clause-targets
+each-second_read-requires-clause-targets g c =
+    targets_after c.args.named.now (targets_after c.args.named.now (targets_after c.args.named.now c.requires.targets c.each-first.ensures) c.each-first_read.ensures) c.each-second.ensures
+
+pub returns : goal.returns
+returns g c =
+    let named : List Named = c.args.named.now in
+    let sound = g.met.P.Port.sound c.args.port.now in
+    Makes-append sound
+    (Makes-append sound
+    (Makes-acts named (λ j. if is_odd j then WriteFlipped else WritePlain) (λ j. write_act (is_odd j)) (λ j. writes_by (is_odd j)) c.each-first.ensures)
+    (Makes-acts named (λ j. if is_odd j then ReadFlipped else ReadPlain) (λ j. read_act (is_odd j)) (λ j. reads_by (is_odd j)) c.each-first_read.ensures))
+    (Makes-append (g.met.P.Port.sound c.each-first_read.new.port)
+    (Makes-acts named (λ j. if is_odd j then WritePlain else WriteFlipped) (λ j. write_act (not (is_odd j))) (λ j. writes_by_not (is_odd j)) c.each-second.ensures)
+    (Makes-acts named (λ j. if is_odd j then ReadPlain else ReadFlipped) (λ j. read_act (not (is_odd j))) (λ j. reads_by_not (is_odd j)) c.each-second_read.ensures))

@@ -1,0 +1,55 @@
+use Rattle.std.proofs.Common.{ℕ, ◌≡◌, ◌==◌, ◌+◌, Bool, true, false, cond, List, [], ◌∷◌, ◌++◌, take, map, length, get_or, refl, arith, ap, sym, ◌∙◌, subst, inl, inr}
+use Rattle.std.specs.Prelude.{if◌then◌else◌, not, slice_index}
+use Rattle.std.specs.List.{flat_map}
+use Rattle.std.proofs.lemmas.List.{length-map, take_all}
+use Rattle.std.proofs.lemmas.List.Folds.{length-flat_map-take}
+use Rattle.std.proofs.lemmas.Option.{slice_get-get_or}
+use Rattle.mt_fault.specs.Faulty.{is_odd}
+use Rattle.mt_fault.specs.Items.{Item, Store}
+use Rattle.mt_march.specs.declared.march.Op.{Op}
+use Rattle.mt_plan.specs.declared.algorithm.Act.{Act}
+use Rattle.mt_plan.specs.Lists.{cells, read_act, write_act}
+use Rattle.mt_seq.specs.declared.own.Named.{Named}
+use Rattle.mt_seq.specs.Inner.Ground.{operation}
+use Rattle.mt_seq.specs.Inner.Own.{at_base, doing, off_base, own_each, own_galpat_base, own_ops, own_pair, own_pairs, own_walk_base}
+use Rattle.mt_seq.specs.Makes.{Makes}
+use Rattle.mt_seq.proofs.Makes.{Makes-append, Makes-nil, Makes-same}
+use Rattle.mt_seq.proofs.NamedRuns.{Makes-pieces, all_pieces, cells_fit, kept_pieces, more_cells, some_cell, targets_after}
+use Rattle.mt_seq.proofs.own.on_base.Goals as goal
+
+abbrev piece : ℕ → Act → Named → List Item
+piece base act m = cond (m.cell == base) (doing m.target act ∷ []) []
+
+pieces_are : (base : ℕ) (act : Act) (named : List Named) → own_each (λ j. act) (at_base base named) ≡ flat_map (piece base act) named
+pieces_are base act named = kept_pieces (λ (m : Named). doing m.target act) (λ (m : Named). m.cell == base) named
+
+pub loop-m-init : goal.loop-m-init
+loop-m-init g c = record { does = Makes-nil (g.P.Port.state c.args.port.now) (g.P.Port.tape c.args.port.now) (g.met.P.Port.sound c.args.port.now) }
+
+pub act_if-good-requires-clause-target : goal.act_if-good-requires-clause-target
+act_if-good-requires-clause-target g c = targets_after c.args.named.now c.requires.targets c.loop-m.invariant.does c.loop-m.m-index some_cell c.loop-m-test.true
+
+pub act_if-good-requires-clause-room : goal.act_if-good-requires-clause-room
+act_if-good-requires-clause-room g c =
+    let named : List Named = c.args.named.now in
+    let m : Named = get_or named c.loop-m.m-index some_cell in
+    omega (
+      arith,
+      length-flat_map-take (piece c.args.base c.args.act) named c.loop-m.m-index some_cell c.loop-m-test.true,
+      ap length (pieces_are c.args.base c.args.act named),
+      c.loop-m.invariant.does.count,
+      c.requires.room,
+    )
+
+pub loop-m-preserved : goal.loop-m-preserved
+loop-m-preserved g c =
+    let named : List Named = c.args.named.now in
+    let m : Named = get_or named c.loop-m.m-index some_cell in
+    record {
+      does = Makes-pieces (piece c.args.base c.args.act) named c.loop-m.m-index m (g.met.P.Port.sound c.args.port.now) (slice_get-get_or named c.loop-m.m-index some_cell c.loop-m-test.true) c.loop-m.invariant.does c.act_if-good.ensures;
+    }
+
+pub returns : goal.returns
+returns g c =
+    Makes-same (ap (flat_map (piece c.args.base c.args.act)) (take_all c.loop-m.m-index c.args.named.now (omega arith)) ∙ sym (pieces_are c.args.base c.args.act c.args.named.now)) refl
+    c.loop-m.invariant.does
