@@ -1,5 +1,5 @@
 -- Words that are none of the fault's.
-use Rattle.std.proofs.Common.{◌≡◌, ◌≢◌, ℕ, ◌<◌, Bool, true, false, cond, eqb, not, List, [], ◌∷◌, ◌++◌, length, get_or, map, set, refl, sym, ◌∙◌, ap, Option, None, Some, arith, inl, inr}
+use Rattle.std.proofs.Common.{◌≡◌, ◌≢◌, ℕ, ◌<◌, Bool, true, false, cond, eqb, not, List, [], ◌∷◌, length, get_or, set, refl, sym, ◌∙◌, ap, None, Some}
 use mathlib.Core.Bool.{◌||◌, ◌&&◌}
 use Rattle.std.specs.Prelude.{All}
 use lib.Bits.{bit_and, bit_or}
@@ -8,22 +8,22 @@ use Rattle.mt_fault.specs.Items.{Item, Look, Check, Store, place, access_of, his
 use Rattle.mt_fault.proofs.ItemLemmas.{words_append, passes_cut, both}
 use Rattle.mt_fault.proofs.Forward.{write_forward, read_forward, settled_after}
 use Rattle.mt_fault.proofs.PlainMemory.{plain_write, plain_read, plain_still}
-use Rattle.std.proofs.lemmas.Bool.{eq-eqb, ne_eqb, cases_Bool, both_ways}
+use Rattle.std.proofs.lemmas.Bool.{eq-eqb, ne_eqb, both_ways}
 use Rattle.std.proofs.lemmas.List.{get_or-set_other, set-get_or}
 use Rattle.mt_word.specs.declared.Width.{Width}
-use Rattle.mt_word.specs.Word.{has_bit, put_bit}
+use Rattle.mt_word.specs.Word.{has_bit}
 use Rattle.mt_word.proofs.WordLemmas.{put_same}
-use Rattle.mt_fault.specs.History.{Access, Read, Write, History, plain}
-use Rattle.mt_fault.specs.Placement.{IsWellPlaced, IsPlaced}
+use Rattle.mt_fault.specs.History.{plain}
+use Rattle.mt_fault.specs.Placement.{IsWellPlaced}
 use Rattle.mt_fault.specs.Projection.{names}
-use Rattle.mt_fault.specs.Faulty.{same, with_victim, every_setting, inverted, forced, coupled, stored_under, words_after, answer, answer_under}
+use Rattle.mt_fault.specs.Faulty.{same, stored_under, words_after, answer_under}
 use Rattle.mt_fault.specs.Memory.{set_spot}
-use Rattle.mt_fault.specs.Rules.{agg_of, vic_of, asked_by, is_of_bit, is_change, vic_after, bit_of, disturbed, written, stepped, read_of}
+use Rattle.mt_fault.specs.Rules.{vic_of, asked_by, is_change, bit_of, written, read_of}
 use Rattle.mt_fault.specs.declared.fault.Spot.{Spot}
 use Rattle.mt_fault.specs.declared.fault.Fault.{Fault}
 use Rattle.mt_fault.specs.declared.fault.Fault.TheVariants.{StuckAt, CannotRise, CannotFall, Invert, Force, State, NoCell, Also, Instead}
 use Rattle.mt_fault.proofs.Bits.{victim_bit}
-use Rattle.mt_fault.proofs.Steps.{settled_under, words_read, size_after, plain_none}
+use Rattle.mt_fault.proofs.Steps.{settled_under, words_read, size_after}
 
 none-of : (p q : Bool) → (p || q) ≡ false → (p ≡ false) × (q ≡ false)
 none-of false q h = (refl, h)
