@@ -1,8 +1,7 @@
 -- What the application's operations leave where the memory has no fault.
-use Rattle.std.proofs.Common.{◌≡◌, ◌≢◌, ℕ, ◌+◌, ◌-◌, ◌%◌, ◌^◌, ◌<◌, ◌==◌, true, List, [], ◌∷◌, length, get_or, set, Option, None, refl, sym, ap, subst, ◌∙◌, arith, eq-eqb}
+use Rattle.std.proofs.Common.{◌≡◌, ℕ, ◌+◌, ◌-◌, ◌%◌, ◌^◌, ◌<◌, List, [], ◌∷◌, length, get_or, set, Option, None, refl, ap, ◌∙◌, arith, eq-eqb}
 use Rattle.std.proofs.lemmas.List.{get_or-set_same, get_or-set_other, get_or-replicate}
 use Rattle.std.proofs.lemmas.Nat.Bits.{bit_at_ones}
-use Rattle.mt_word.specs.declared.Width.{Width}
 use Rattle.mt_word.specs.Word.{width_bits, has_bit}
 use Rattle.mt_fault.specs.declared.fault.Fault.{Fault}
 use Rattle.mt_fault.specs.History.{Read, Write}
@@ -45,11 +44,11 @@ module _ (plain : ArePlain) where
 
   -- a write of a word behind a read
   read_and_write : (b : Board) (from to x y : ℕ) → b.fault ≡ None → to < length b.words → x ≡ y
-    → words_after b.fault (words_after b.fault b.words (Read from ∷ [])) (Write to x ∷ []) ≡ set b.words to y
+      → words_after b.fault (words_after b.fault b.words (Read from ∷ [])) (Write to x ∷ []) ≡ set b.words to y
   read_and_write b from to x y none inside same =
-    ap (λ (ws : List ℕ). words_after b.fault ws (Write to x ∷ [])) (reads b.fault b.words from none)
-    ∙ writes b.fault b.words to x none inside
-    ∙ ap (λ (w : ℕ). set b.words to w) same
+      ap (λ (ws : List ℕ). words_after b.fault ws (Write to x ∷ [])) (reads b.fault b.words from none)
+      ∙ writes b.fault b.words to x none inside
+      ∙ ap (λ (w : ℕ). set b.words to w) same
 
   inside_of : (b : Board) (a : ℕ) → IsFaultless b → a < b.shape.ram → a < length b.words
   inside_of b a known lt = omega (arith, known.sized)
@@ -62,20 +61,20 @@ module _ (plain : ArePlain) where
 
   pub write_leaves : WritesLeave
   write_leaves b a x known lt =
-    let inside = inside_of b a known lt in
-    record { answers = refl; leaves = leaves_set b (app.Write a x) a x inside (writes b.fault b.words a x known.none inside) }
+      let inside = inside_of b a known lt in
+      record { answers = refl; leaves = leaves_set b (app.Write a x) a x inside (writes b.fault b.words a x known.none inside) }
 
   pub addition_leaves : AdditionsLeaveSums
   addition_leaves b a x known lt =
-    let inside = inside_of b a known lt in
-    let same = ap (λ (w : ℕ). (w + x) % 2 ^ width_bits b.shape.width) (answers b.fault b.words a known.none) in
-    record { answers = ap (λ (w : ℕ). Word w) same; leaves = leaves_set b (app.Add a x) a _ inside (read_and_write b a a _ _ known.none inside same) }
+      let inside = inside_of b a known lt in
+      let same = ap (λ (w : ℕ). (w + x) % 2 ^ width_bits b.shape.width) (answers b.fault b.words a known.none) in
+      record { answers = ap (λ (w : ℕ). Word w) same; leaves = leaves_set b (app.Add a x) a _ inside (read_and_write b a a _ _ known.none inside same) }
 
   pub copy_leaves : CopiesLeaveTheirSource
   copy_leaves b src dst known lt =
-    let inside = inside_of b dst known lt in
-    let same = answers b.fault b.words src known.none in
-    record { answers = ap (λ (w : ℕ). Word w) same; leaves = leaves_set b (app.Copy src dst) dst _ inside (read_and_write b src dst _ _ known.none inside same) }
+      let inside = inside_of b dst known lt in
+      let same = answers b.fault b.words src known.none in
+      record { answers = ap (λ (w : ℕ). Word w) same; leaves = leaves_set b (app.Copy src dst) dst _ inside (read_and_write b src dst _ _ known.none inside same) }
 
   pub flash_answers : FlashReadsAnswer
   flash_answers b addr known a = record { answers = refl; leaves = leaves_all b (app.Flash addr) a refl }

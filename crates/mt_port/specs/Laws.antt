@@ -1,6 +1,6 @@
 -- Laws of the application's operations on a memory without a fault.
-use Rattle.std.specs.Prelude.{◌≡◌, ◌≢◌, ◌<◌, ◌+◌, ◌%◌, ◌^◌, ℕ, List, length, true, None, Option, slice_index}
-use Rattle.mt_word.specs.Word.{Fits, width_bits, has_bit}
+use Rattle.std.specs.Prelude.{◌≡◌, ◌≢◌, ◌<◌, ◌+◌, ◌%◌, ◌^◌, ℕ, length, true, None, Option, slice_index}
+use Rattle.mt_word.specs.Word.{width_bits, has_bit}
 use Rattle.mt_fault.specs.declared.fault.Fault.{Fault}
 use Rattle.mt_port.specs.declared.board.Shape.{Shape}
 use Rattle.mt_port.specs.declared.request.AppOp.{AppOp}
