@@ -1,6 +1,6 @@
 -- The rule that refuses a text has the least number of those that the text breaks.
-use Rattle.std.proofs.Common.{◌≡◌, ◌≤◌, ℕ, ◌+◌, Bool, true, false, cond, not, ◌&&◌, ◌||◌, List, [], length, Option, Some, None, refl, sym, ap, subst, ◌∙◌, arith, lit≤}
-use Rattle.std.specs.Prelude.{is_none, All}
+use Rattle.std.proofs.Common.{◌≡◌, ◌≤◌, ℕ, Bool, true, false, cond, not, ◌&&◌, ◌||◌, List, [], Option, Some, None, refl, sym, ap, subst, ◌∙◌, arith, lit≤}
+use Rattle.std.specs.Prelude.{is_none}
 use Rattle.mt_march.specs.declared.march.Op.{Op}
 use Rattle.mt_march.specs.declared.march.Element.{Element}
 use Rattle.mt_march.specs.declared.march.MarchKind.{MarchKind}
@@ -12,12 +12,12 @@ use Rattle.mt_march.specs.Machine.{fault}
 use Rattle.mt_march.specs.Scan.{too_long, read_before_write, wrong_expectation, one_value, has_read, close_place, rule_found}
 use Rattle.mt_march.specs.Value.{parts, march_of}
 use Rattle.mt_march.specs.Rules.{or_else}
-use Rattle.mt_march.specs.Reading.{Refuses, march_number, march_refusal}
-use Rattle.mt_march.specs.Accepted.{operations, begins_with_write, reads_agree, reads}
+use Rattle.mt_march.specs.Reading.{march_number, march_refusal}
+use Rattle.mt_march.specs.Accepted.{operations, reads}
 use Rattle.mt_march.specs.Broken.{IsShort, BreaksRule, SpellsBreaking, Breaks}
 use Rattle.mt_march.specs.Laws.{RefusalIsLeast}
 use Rattle.mt_march.proofs.Places.{march_read, march_from_none, place_from_fault}
-use Rattle.mt_march.proofs.Agreement.{Same, Fits, same, flat, text_has_digits, fits_down, fits_up, begins_well, written_first, well_begun}
+use Rattle.mt_march.proofs.Agreement.{Same, Fits, same, flat, text_has_digits, fits_down, fits_up, written_first, well_begun}
 use Rattle.mt_march.proofs.Refusals.{refusal_found}
 
 -- ---- the first of four places that is there

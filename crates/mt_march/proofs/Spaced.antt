@@ -1,5 +1,5 @@
 -- Where the spaces of the canonical text stand.
-use Rattle.std.proofs.Common.{◌≡◌, ◌<◌, ℕ, zero, suc, ◌-◌, ◌==◌, Bool, true, false, not, List, [], ◌∷◌, ◌++◌, get_or, refl, sym, ◌∙◌, arith, codes, eq-eqb, eqb-true, sub-one}
+use Rattle.std.proofs.Common.{◌≡◌, ℕ, zero, suc, ◌==◌, Bool, true, false, not, List, [], ◌∷◌, ◌++◌, get_or, refl, sym, ◌∙◌, arith, codes, eq-eqb, eqb-true, sub-one}
 use Rattle.std.specs.Prelude.{◌↔◌, ◌&&◌}
 use Rattle.std.proofs.lemmas.Bool.{and_parts}
 use mathlib.Core.Bool.{beq}
@@ -8,7 +8,7 @@ use Rattle.mt_march.specs.declared.march.Op.TheVariants.{R0, R1, W0, W1}
 use Rattle.mt_march.specs.declared.march.Order.{Order}
 use Rattle.mt_march.specs.declared.march.Order.TheVariants.{Up, Down, Either}
 use Rattle.mt_march.specs.declared.march.Element.{Element}
-use Rattle.mt_march.specs.Grammar.{Token, order_token, op_token, more_ops, all_ops, element_tokens, more_elements, march_tokens}
+use Rattle.mt_march.specs.Grammar.{Token, order_token, op_token, more_ops, all_ops, element_tokens, more_elements}
 use Rattle.mt_march.specs.Canonical.{shown, text_of, canonical}
 use Rattle.mt_march.specs.Laws.{SpacesFollowSemicolons}
 
