@@ -7,9 +7,9 @@ use Rattle.mt_word.specs.declared.Width.{Width}
 use Rattle.mt_word.specs.Word.{Fits, has_bit, width_bits}
 use Rattle.mt_fault.specs.History.{Access, Read, Write, History, plain}
 use Rattle.mt_fault.specs.Placement.{IsWellPlaced, IsPlaced}
-use Rattle.mt_fault.specs.Faulty.{with_victim, every_setting, inverted, forced, coupled, address, moved, stored_under, stored, words_after, answer, answer_under}
+use Rattle.mt_fault.specs.Faulty.{with_victim, address, moved, stored_under, stored, words_after, answer, answer_under}
 use Rattle.mt_fault.specs.Memory.{Memory, IsSound, FitAll, set_spot, after_access}
-use Rattle.mt_fault.specs.Rules.{agg_of, vic_of, is_of_bit, vic_after, bit_of, disturbed, written, stepped, read_of}
+use Rattle.mt_fault.specs.Rules.{agg_of, vic_of, is_of_bit, vic_after, bit_of, written, stepped, read_of}
 use Rattle.mt_fault.specs.declared.fault.Spot.{Spot}
 use Rattle.mt_fault.specs.declared.fault.Fault.{Fault}
 use Rattle.mt_fault.specs.declared.fault.Fault.TheVariants.{StuckAt, CannotRise, CannotFall, Invert, Force, State, NoCell, Also, Instead}

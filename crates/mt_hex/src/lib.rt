@@ -5,7 +5,7 @@ mod laws;
 mod reading;
 mod writing;
 
-pub use laws::words_fit;
+pub use laws::{digits_have_values, words_fit};
 pub use reading::{hex_of, word_of};
 pub use writing::{push_bytes, push_number, push_word};
 

@@ -81,11 +81,11 @@ text_has_digits text es h = spelled_digits (march_tokens es) text (march_keep es
 
 -- ---- the rules of reads
 
-abbrev flat : List Op × List Element → List Op
+abbrev pub flat : List Op × List Element → List Op
 flat p = p.0 ++ operations p.1
 
 -- whether the first operation is no read
-abbrev begins_well : List Op → Bool
+abbrev pub begins_well : List Op → Bool
 begins_well [] = true
 begins_well (op ∷ ops) = writes op
 
@@ -96,11 +96,11 @@ written_of (Some false) = 48
 written_of (Some true) = 49
 
 -- The rules of reads say the same of a text and of its operations.
-record Same (text : List ℕ) (ops : List Op) : Type 0 where
-  zeros : has_read 48 text ≡ reads false ops
-  ones : has_read 49 text ≡ reads true ops
-  begins : (place : ℕ) → is_none (read_before_write place text) ≡ begins_well ops
-  agree : (place : ℕ) (u : Option Bool) → is_none (wrong_expectation place (written_of u) text) ≡ reads_agree u ops
+pub record Same (text : List ℕ) (ops : List Op) : Type 0 where
+  pub zeros : has_read 48 text ≡ reads false ops
+  pub ones : has_read 49 text ≡ reads true ops
+  pub begins : (place : ℕ) → is_none (read_before_write place text) ≡ begins_well ops
+  pub agree : (place : ℕ) (u : Option Bool) → is_none (wrong_expectation place (written_of u) text) ≡ reads_agree u ops
 
 same_other : (b : ℕ) (bs : List ℕ) (ops : List Op) → (b == 114) ≡ false → (b == 119) ≡ false → Same bs ops → Same (b ∷ bs) ops
 same_other b bs ops r w h = record {
@@ -157,7 +157,7 @@ flat_other true letter k op later e = refl
 flat_other false true k op later e = absurd cc
 flat_other false false k op later e = refl
 
-same : (text : List ℕ) → HasDigits text → Same text (flat (parts text))
+pub same : (text : List ℕ) → HasDigits text → Same text (flat (parts text))
 same [] h = record { zeros = refl; ones = refl; begins = λ place. refl; agree = λ place u. refl }
 same (b ∷ bs) h =
     let more = same bs h.1 in
@@ -184,10 +184,10 @@ same (b ∷ bs) h =
 -- ---- the rule of lengths
 
 -- The operations that belong to no element yet, and the elements, are not too many.
-record Fits (e o : ℕ) (p : List Op × List Element) : Type 0 where
-  ops : o + length p.0 ≤ 8
-  elements : e + length p.1 ≤ 16
-  short : All (λ (x : Element). length x.ops.items ≤ 8) p.1
+pub record Fits (e o : ℕ) (p : List Op × List Element) : Type 0 where
+  pub ops : o + length p.0 ≤ 8
+  pub elements : e + length p.1 ≤ 16
+  pub short : All (λ (x : Element). length x.ops.items ≤ 8) p.1
 
 fits_put : (order letter : Bool) (e o : ℕ) (k : Order) (op : Op) (later : List Op × List Element) → e ≤ 16 → o ≤ 8 → Fits (elements_after order e) (ops_after order letter o) later
     → Fits e o (cond order ([], element k later.0 ∷ later.1) (cond letter (op ∷ later.0, later.1) later))
@@ -199,7 +199,7 @@ fits_put true letter e o k op later he ho f = record {
 fits_put false true e o k op later he ho f = record { ops = omega (arith, f.ops); elements = f.elements; short = f.short }
 fits_put false false e o k op later he ho f = f
 
-fits_down : (place e o : ℕ) (text : List ℕ) → e ≤ 16 → o ≤ 8 → too_long place e o text ≡ None → Fits e o (parts text)
+pub fits_down : (place e o : ℕ) (text : List ℕ) → e ≤ 16 → o ≤ 8 → too_long place e o text ≡ None → Fits e o (parts text)
 fits_down place e o [] he ho h = record { ops = omega arith; elements = omega arith; short = All-nil (λ (x : Element). length x.ops.items ≤ 8) }
 fits_down place e o (b ∷ bs) he ho h =
     let room = room_more place e o b bs h he ho in
@@ -242,7 +242,7 @@ up_by false false full_e full_o place e o bs fe fo h = h
 not_full : (n limit : ℕ) → n < limit → eqb n limit ≡ false
 not_full n limit h = ne_eqb n limit (λ e. omega arith)
 
-fits_up : (place e o : ℕ) (text : List ℕ) → Fits e o (parts text) → too_long place e o text ≡ None
+pub fits_up : (place e o : ℕ) (text : List ℕ) → Fits e o (parts text) → too_long place e o text ≡ None
 fits_up place e o [] f = refl
 fits_up place e o (b ∷ bs) f =
     let left = fits_left (is_order b) (is_letter b) e o (order_of b) (op_of b (first bs)) (parts bs) f in
@@ -312,7 +312,7 @@ short_of (e ∷ es) some all =
     some_ops [] h = absurd h
     some_ops (op ∷ ops) h = omega arith
 
-written_first : (es : List Element) → IsMarch es → begins_well (operations es) ≡ true → begins_with_write (operations es) ≡ true
+pub written_first : (es : List Element) → IsMarch es → begins_well (operations es) ≡ true → begins_with_write (operations es) ≡ true
 written_first [] is h = absurd is.0
 written_first (e ∷ es) is h = first_of e.ops.items is.1.0 h
   where
@@ -320,7 +320,7 @@ written_first (e ∷ es) is h = first_of e.ops.items is.1.0 h
     first_of [] some k = absurd some
     first_of (op ∷ ops) some k = k
 
-well_begun : (ops : List Op) → begins_with_write ops ≡ true → begins_well ops ≡ true
+pub well_begun : (ops : List Op) → begins_with_write ops ≡ true → begins_well ops ≡ true
 well_begun [] h = refl
 well_begun (op ∷ ops) h = h
 

@@ -47,7 +47,7 @@ rule_is_found : (text : List ℕ) (r : MarchRefusal) (m : MarchAt) (o : Option �
 rule_is_found text r m None is spelled broken = found_is_broken text m spelled ∙ broken
 rule_is_found text r m (Some p) is spelled broken = absurd ((place_from_fault text p is).refused (elements_of m, placed_is_spelled text m spelled))
 
-refusal_found : (text : List ℕ) (r : MarchRefusal) → Refuses text r → march_refusal text ≡ Some r
+pub refusal_found : (text : List ℕ) (r : MarchRefusal) → Refuses text r → march_refusal text ≡ Some r
 unfolding march_refusal
 refusal_found text r (inl spelling) = spelling_found text r (fault Brace 1 text) refl spelling.0 spelling.1
 refusal_found text r (inr broken) = rule_is_found text r broken.0 (fault Brace 1 text) refl broken.1 broken.2

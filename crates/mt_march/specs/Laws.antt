@@ -1,14 +1,16 @@
 -- Laws of marches and their texts.
-use Rattle.std.specs.Prelude.{◌≡◌, ◌↔◌, ℕ, List, Some, None}
+use Rattle.std.specs.Prelude.{◌≡◌, ◌<◌, ◌≤◌, ◌-◌, ◌↔◌, ℕ, List, Some, None, slice_index}
 use Rattle.mt_march.specs.declared.march.Element.{Element}
+use Rattle.mt_march.specs.declared.march.MarchKind.{MarchKind}
 use Rattle.mt_march.specs.declared.march.MarchRefusal.{MarchRefusal}
 use Rattle.mt_march.specs.Grammar.{IsMarch, SpellsMarch}
 use Rattle.mt_march.specs.Placed.{MarchAt, elements_of, SpellsMarchAt}
 use Rattle.mt_march.specs.Rules.{rule_broken}
-use Rattle.mt_march.specs.Reading.{Refuses, march_refusal}
+use Rattle.mt_march.specs.Reading.{Refuses, march_number, march_refusal}
 use Rattle.mt_march.specs.Value.{march_of}
 use Rattle.mt_march.specs.Accepted.{IsAcceptedMarch}
 use Rattle.mt_march.specs.Canonical.{canonical}
+use Rattle.mt_march.specs.Broken.{Breaks}
 
 -- the march of a text breaks no rule exactly where it is an accepted one
 abbrev pub AcceptedBreaksNoRule : Type 0
@@ -21,6 +23,11 @@ AcceptedIsMarch = (march : List Element) → IsAcceptedMarch march → IsMarch m
 -- the canonical text spells its march
 abbrev pub CanonicalSpells : Type 0
 CanonicalSpells = (march : List Element) → IsMarch march → SpellsMarch (canonical march) march
+
+-- a byte of the canonical text is a space exactly where the byte before it is a semicolon
+abbrev pub SpacesFollowSemicolons : Type 0
+SpacesFollowSemicolons = (march : List Element) (i : ℕ)
+    → (slice_index (canonical march) i ≡ 32) ↔ ((0 < i) × (slice_index (canonical march) (i - 1) ≡ 59))
 
 -- a text spells one march
 abbrev pub SpellsOne : Type 0
@@ -45,3 +52,8 @@ RefusalIsOfText = (text : List ℕ) (refusal : MarchRefusal) → Refuses text re
 -- a text that has none spells a march, which is an accepted one
 abbrev pub UnrefusedIsMarch : Type 0
 UnrefusedIsMarch = (text : List ℕ) → march_refusal text ≡ None → SpellsMarch text (march_of text) × IsAcceptedMarch (march_of text)
+
+-- a text breaks the rule of its refusal, and breaks none that has a lesser number
+abbrev pub RefusalIsLeast : Type 0
+RefusalIsLeast = (text : List ℕ) (refusal : MarchRefusal) → Refuses text refusal
+    → Breaks refusal.kind text × ((kind : MarchKind) → Breaks kind text → march_number refusal.kind ≤ march_number kind)

@@ -1,6 +1,6 @@
 //! Laws of marches and their texts.
 
-ghost use Rattle.mt_march.specs.Laws.{AcceptedBreaksNoRule, AcceptedIsMarch, CanonicalSpells, SpellsOne, PlacedIsSpelled, SpelledHasPlaces, PlacesAreOne, RefusalIsOfText, UnrefusedIsMarch};
+ghost use Rattle.mt_march.specs.Laws.{AcceptedBreaksNoRule, AcceptedIsMarch, CanonicalSpells, SpacesFollowSemicolons, SpellsOne, PlacedIsSpelled, SpelledHasPlaces, PlacesAreOne, RefusalIsOfText, UnrefusedIsMarch, RefusalIsLeast};
 
 /// The march of a text breaks no rule exactly where it is an accepted one, which has a text.
 pub fn accepted_breaks_no_rule()
@@ -8,9 +8,10 @@ pub fn accepted_breaks_no_rule()
     ensures march { AcceptedIsMarch }
 {}
 
-/// The canonical text spells its march, and no text spells two.
+/// The canonical text spells its march, with a space after each semicolon and nowhere else, and no text spells two.
 pub fn canonical_spells()
     ensures spells { CanonicalSpells }
+    ensures spaces { SpacesFollowSemicolons }
     ensures one { SpellsOne }
 {}
 
@@ -25,4 +26,9 @@ pub fn marches_have_places()
 pub fn refusals_are_of_texts()
     ensures refused { RefusalIsOfText }
     ensures unrefused { UnrefusedIsMarch }
+{}
+
+/// A text breaks the rule that its refusal names, and none with a lesser number.
+pub fn the_least_rule_refuses()
+    ensures { RefusalIsLeast }
 {}

@@ -13,7 +13,7 @@ use Rattle.mt_window.specs.declared.log.Entry.TheVariants.{Served, Inner, Own}
 use Rattle.mt_window.specs.Serving.{Table, Scene, scene, operated, operated_all, reply_by, served, due_served, left_served, cost}
 use Rattle.mt_window.specs.Slices.{Tests, Trail, Attempt, kept_attempt, scene_behind, after_attempt}
 use Rattle.mt_window.specs.Events.{Running, opened, entered, ran, returned}
-use Rattle.mt_window.specs.Waits.{IsShort, WaitsAreShortIn, AnEventHasRoom}
+use Rattle.mt_window.specs.Waits.{IsShort, WaitsAreShortIn, AttemptsAreWithin, MakesShortAttempts, AnEventHasRoom}
 use Rattle.mt_window.specs.Kept.{slices-keeps}
 use Rattle.mt_window.proofs.Serving.{operated_all-keeps}
 use Rattle.mt_window.proofs.Late.{Each, Each-map, Each-all, Late, served_late}
@@ -68,7 +68,7 @@ attempt-waits t may x g h =
     let P : Entry → Type 0 = IsShort (g.attempts ++ a ∷ []) in
     let each : Each (λ (r : Request). r.offset ≤ mid.board.count → (n : ℕ) → P (Served n mid.board.count (mid.board.count - r.offset))) mid.board.left =
     Each-map (λ (r : Request). g.scene.board.count < r.offset) (λ (r : Request). r.offset ≤ mid.board.count → (n : ℕ) → P (Served n mid.board.count (mid.board.count - r.offset)))
-    (λ r above low n. inr (Any-push (λ (b : Attempt). (b.finish ≡ mid.board.count) × (mid.board.count - r.offset < b.hold)) g.attempts a (refl, omega arith)))
+    (λ r above low n. inr (Any-push (λ (b : Attempt). (b.finish ≡ mid.board.count) × (mid.board.count - r.offset < b.made)) g.attempts a (refl, omega arith)))
     g.scene.board.left h.late.above in
     record {
       late = served_late t.table mid h.late.ordered;
@@ -91,6 +91,15 @@ event-waits {C} {X} {V} r s fresh =
     let end = slices-keeps t (λ (g : Trail C). Waits g) (attempt-waits t) (r.work o.callee) (entered r o) start in
     let z = ran r o in
     left_served-log t.table (IsShort z.attempts) (λ q. tt) (λ n b. inl refl) z.scene.board.left (returned r o z.scene) end.short
+
+-- no attempt of an event has more accesses than the sequence of its slice
+pub event-within : {C X V : Type 0} (r : Running C X V) → AttemptsAreWithin r.tests → MakesShortAttempts r
+event-within {C} {X} {V} r within s =
+    let o = opened r s in
+    slices-keeps r.tests (λ (g : Trail C). All (λ (a : Attempt). a.made ≤ a.whole) g.attempts) step (r.work o.callee) (entered r o) (λ k d h. absurd (omega (arith, h)))
+  where
+    step : (may : Bool) (x : X) (g : Trail C) → All (λ (a : Attempt). a.made ≤ a.whole) g.attempts → All (λ (a : Attempt). a.made ≤ a.whole) (after_attempt r.tests may g x).attempts
+    step may x g all = All-push (λ (a : Attempt). a.made ≤ a.whole) g.attempts (kept_attempt r.tests may g x) all (within may g.scene.callee x g.scene.board)
 
 pub event-room : AnEventHasRoom
 event-room [] few short = omega arith

@@ -186,7 +186,7 @@ left_of t may g x a = record {
   scene = serve_due t.table (scene (attempted a g.scene.board) (taken_by t g.scene.callee x g.failed a.verdict) g.scene.log);
   failed = failed_by t x g.failed a.verdict;
   touches = g.touches ++ a.touches;
-  attempts = g.attempts ++ (record { finish = g.scene.board.count + a.count; hold = a.count; restores = if may then t.restores g.scene.callee x else None }) ∷ [];
+  attempts = g.attempts ++ (record { finish = g.scene.board.count + a.count; made = a.count; whole = t.hold g.scene.callee x; restores = if may then t.restores g.scene.callee x else None }) ∷ [];
 }
 
 tried-alike : {C X V : Type 0} (t : Tests C X V) (f : Bool → C → X → Board → Tried V) (I : C → Type 0) → IsInvariant t I → AreAlike t f I → (n : ℕ) (x : X) (g : Trail C) → IsSoundScene I g.scene

@@ -30,10 +30,12 @@ pub record Tests (C X V : Type 0) : Type 0 where
   -- whether a slice of this test failed, from then on
   pub failed : X → V → Bool → Bool
 
--- an attempt that was made: the count at its end, how many accesses it made, and where it might be dropped how many words it writes back
+-- an attempt that was made: the count at its end, how many accesses it made, how many the whole sequence of its slice has, and where it
+-- might be dropped how many words it writes back
 pub record Attempt : Type 0 where
   pub finish : ℕ
-  pub hold : ℕ
+  pub made : ℕ
+  pub whole : ℕ
   pub restores : Option ℕ
 
 -- what an event has come to: the board, the module and the entries; whether a slice of this test failed; the test accesses and the
@@ -64,7 +66,8 @@ next_attempt t may g x = t.attempt may g.scene.callee x g.scene.board
 abbrev pub kept_attempt : {C X V : Type 0} → Tests C X V → Bool → Trail C → X → Attempt
 kept_attempt t may g x = record {
   finish = g.scene.board.count + (next_attempt t may g x).count;
-  hold = (next_attempt t may g x).count;
+  made = (next_attempt t may g x).count;
+  whole = t.hold g.scene.callee x;
   restores = if may then t.restores g.scene.callee x else None;
 }
 

@@ -49,7 +49,7 @@ ServesByOffset {C} r = (s : Scene C) → IsFresh s
 
 -- a request's wait is 0, or below the length of the attempt that it meets: the one that ends at its place
 abbrev pub IsShort : List Attempt → Entry → Type 0
-IsShort made (Served number place wait) = (wait ≡ 0) ⊎ Any (λ (a : Attempt). (a.finish ≡ place) × (wait < a.hold)) made
+IsShort made (Served number place wait) = (wait ≡ 0) ⊎ Any (λ (a : Attempt). (a.finish ≡ place) × (wait < a.made)) made
 IsShort made (Inner reply) = Unit {0}
 IsShort made (Own reply) = Unit {0}
 
@@ -65,7 +65,7 @@ DropsInTime {C} {X} t = (c : C) (x : X) (b : Board) (n : ℕ) → t.restores c x
 
 -- a request falls due in an attempt: above its first count, and at most at its end
 pub record FallsIn (a : Attempt) (q : Request) : Type 0 where
-  pub begun : a.finish < q.offset + a.hold
+  pub begun : a.finish < q.offset + a.made
   pub ended : q.offset ≤ a.finish
 
 -- it is then served at the attempt's end, with a wait of at most n
@@ -80,6 +80,13 @@ IsUrgentlyServed made q = q.urgent ≡ true → All (λ (a : Attempt). (n : ℕ)
 -- where attempts are dropped in time, each is so
 abbrev pub UrgentWaitsAreShortIn : {C X V : Type 0} → Running C X V → Type 0
 UrgentWaitsAreShortIn {C} r = (s : Scene C) → IsFresh s → All (IsUrgentlyServed (event_attempts r s)) s.board.left
+
+-- Where no attempt has more accesses than the sequence of its slice, none that an event makes has more than the stated length.
+abbrev pub AttemptsAreWithin : {C X V : Type 0} → Tests C X V → Type 0
+AttemptsAreWithin {C} {X} t = (may : Bool) (c : C) (x : X) (b : Board) → (t.attempt may c x b).count ≤ t.hold c x
+
+abbrev pub MakesShortAttempts : {C X V : Type 0} → Running C X V → Type 0
+MakesShortAttempts {C} r = (s : Scene C) → All (λ (a : Attempt). a.made ≤ a.whole) (event_attempts r s)
 
 -- where the requests of this call's events are served, and how long they wait
 pub record ServesInTime {C X V : Type 0} (r : Running C X V) : Type 0 where
