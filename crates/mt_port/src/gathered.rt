@@ -1,8 +1,9 @@
 //! Small pieces gathered, so that a sink is called seldom.
 
 ghost use Rattle.std.specs.Prelude.{◌≡◌, ◌≤◌, ◌+◌, [], ◌++◌, length, OnOk, OnErr};
-ghost use Rattle.std.specs.Io.KnownBytes.{Appends, append_known};
+ghost use Rattle.std.specs.Io.KnownBytes.{Appends};
 ghost use Rattle.mt_port.specs.Causes.{HasCause};
+ghost use Rattle.mt_port.specs.Gathering.{Gathers};
 ghost use Rattle.mt_port.specs.Streams.{AppendsFront};
 ghost use Rattle.mt_port.specs.declared.gathered.TheConstants.{ROOM};
 
@@ -40,8 +41,7 @@ impl Gathered {
     /// Passes a piece for the sink, which is called only if the piece finds no room beside the bytes that wait.
     /// A failure drops them all: then the sink has a proper front of them and the piece.
     pub fn put<K: Sink>(&mut self, sink: &mut K, piece: &[u8]) -> Result<(), Failed>
-        ensures ok { OnOk result (Appends (append_known (K.held sink.old) self.old)
-            (append_known (K.held sink.new) self.new) piece.now) }
+        ensures ok { OnOk result (Gathers (K.held sink.old) (K.held sink.new) self.old self.new piece.now) }
         ensures err { OnErr result (AppendsFront (K.held sink.old) (K.held sink.new) (self.old ++ piece.now)) }
         ensures none { OnErr result (self.new ≡ []) }
         ensures cause { HasCause (K.faults sink.old) (K.faults sink.new) result }
@@ -55,8 +55,7 @@ impl Gathered {
 
     // Makes room for a piece; one that is longer than all room goes to the sink at once.
     fn put_after_flush<K: Sink>(&mut self, sink: &mut K, piece: &[u8]) -> Result<(), Failed>
-        ensures ok { OnOk result (Appends (append_known (K.held sink.old) self.old)
-            (append_known (K.held sink.new) self.new) piece.now) }
+        ensures ok { OnOk result (Gathers (K.held sink.old) (K.held sink.new) self.old self.new piece.now) }
         ensures err { OnErr result (AppendsFront (K.held sink.old) (K.held sink.new) (self.old ++ piece.now)) }
         ensures none { OnErr result (self.new ≡ []) }
         ensures cause { HasCause (K.faults sink.old) (K.faults sink.new) result }
