@@ -2,8 +2,8 @@
 #![tactic(auto, unfolding(crate::specs::Board::powered_up))]
 
 use crate::{
-    Failed, MemSink, MemSource, NullSink, PlainBoard, PlainSource, Port, Shape, Sink, Source,
-    StdIn, StdOut, Touch, put,
+    Failed, Gathered, MemSink, MemSource, NullSink, PlainBoard, PlainSource, Port, Shape, Sink,
+    Source, StdIn, StdOut, Touch, put,
 };
 use mt_word::Width;
 use std::io;
@@ -192,6 +192,40 @@ fn a_sink_fails_once_at_a_place(rt: HostRuntime) -> Result<(), Fail> {
     assert_eq!(rt; sink.write(b"cd"), Err(Failed));
     assert_eq!(rt; sink.write(b"cd"), Ok(2));
     assert_eq!(rt; sink.bytes(), b"abcd".as_slice());
+    Ok(())
+}
+
+#[test]
+fn gathered_pieces_wait_until_there_is_no_room(rt: HostRuntime) -> Result<(), Fail> {
+    let alloc = rt.alloc();
+    let mut sink = MemSink::new(alloc, 5000, Vec::new(alloc))
+        .ok()
+        .ok_or("memory")?;
+    let mut gathered = Gathered::new();
+    assert_eq!(rt; gathered.put(&mut sink, b"ab"), Ok(()));
+    assert_eq!(rt; gathered.put(&mut sink, &[b'x'; 4094]), Ok(()));
+    assert_eq!(rt; sink.bytes(), b"".as_slice());
+    assert_eq!(rt; gathered.put(&mut sink, b"yz"), Ok(()));
+    assert_eq!(rt; sink.bytes().len(), 4096);
+    assert_eq!(rt; gathered.flush(&mut sink), Ok(()));
+    assert_eq!(rt; sink.bytes().len(), 4098);
+    assert_eq!(rt; gathered.put(&mut sink, &[b'x'; 4096]), Ok(()));
+    assert_eq!(rt; gathered.flush(&mut sink), Err(Failed));
+    assert_eq!(rt; sink.bytes().len(), 5000);
+    assert_eq!(rt; gathered.flush(&mut sink), Ok(()));
+    Ok(())
+}
+
+#[test]
+fn a_piece_longer_than_all_room_is_not_gathered(rt: HostRuntime) -> Result<(), Fail> {
+    let alloc = rt.alloc();
+    let mut sink = MemSink::new(alloc, 5000, Vec::new(alloc))
+        .ok()
+        .ok_or("memory")?;
+    let mut gathered = Gathered::new();
+    assert_eq!(rt; gathered.put(&mut sink, b"ab"), Ok(()));
+    assert_eq!(rt; gathered.put(&mut sink, &[b'x'; 4097]), Ok(()));
+    assert_eq!(rt; sink.bytes().len(), 4099);
     Ok(())
 }
 
