@@ -143,6 +143,42 @@ fn a_writer_that_takes_nothing_fails(rt: HostRuntime) {
     assert_eq!(rt; put(&mut sink, b"a"), Err(Failed));
 }
 
+// A writer that takes at most so many bytes a call, and never fails.
+#[derive(Drop)]
+struct TakesUpTo(usize);
+
+impl io::Write for TakesUpTo {
+    fn write(&mut self, buf: &[u8]) -> io::Result<usize> {
+        Ok(buf.len().min(self.0))
+    }
+
+    fn flush(&mut self) -> io::Result<()> {
+        Ok(())
+    }
+}
+
+#[test]
+fn a_piece_of_any_size_goes_to_a_writer_that_takes_some(rt: HostRuntime) -> Result<(), Fail> {
+    let piece = vec![in rt.alloc(); b'x'; 65_536]?;
+    for size in [1, 4095, 4096, 4097, 16_448, 65_536] {
+        assert_eq!(rt;
+            put(
+                &mut StdOut::new(TakesUpTo(usize::MAX)),
+                &piece[..size.min(piece.len())]
+            ),
+            Ok(())
+        );
+        assert_eq!(rt;
+            put(
+                &mut StdOut::new(TakesUpTo(1)),
+                &piece[..size.min(piece.len())]
+            ),
+            Ok(())
+        );
+    }
+    Ok(())
+}
+
 #[test]
 fn a_source_fails_once_at_a_place(rt: HostRuntime) -> Result<(), Fail> {
     let alloc = rt.alloc();
