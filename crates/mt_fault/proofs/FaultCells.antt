@@ -1,11 +1,11 @@
 -- The cells of a slice that a fault names.
-use Rattle.std.proofs.Common.{ℕ, zero, suc, ◌+◌, ◌-◌, ◌<◌, ◌≤◌, ◌≡◌, ◌≢◌, Bool, true, false, eqb, List, [], ◌∷◌, ◌++◌, Option, None, Some, refl, sym, ap, ◌∙◌, arith, inl, inr}
-use mathlib.Core.Bool.{◌||◌, ◌&&◌}
-use Rattle.std.specs.Prelude.{◌⊎◌, nat_le, nat_lt, if◌then◌else◌}
+use Rattle.std.proofs.Common.{ℕ, zero, suc, ◌+◌, ◌-◌, ◌<◌, ◌≤◌, ◌≡◌, ◌≢◌, Bool, true, false, eqb, List, [], ◌∷◌, ◌++◌, None, Some, refl, sym, ap, ◌∙◌, arith, inl, inr}
+use mathlib.Core.Bool.{◌||◌}
+use Rattle.std.specs.Prelude.{◌⊎◌, nat_le, nat_lt}
 use Rattle.std.specs.List.{filter, list_any, range_with_len}
 use Rattle.std.proofs.lemmas.Bool.{or_left, or_right, cases_eq, cases_lt, eq-eqb, ne_eqb, lt-ltb, le-ltb, le-leb, lt-leb}
 use Rattle.mt_fault.specs.Placement.{addresses}
-use Rattle.mt_fault.specs.Projection.{cell_at, cells_of_fault, is_of_fault, names, one_or_two}
+use Rattle.mt_fault.specs.Projection.{cell_at, cells_of_fault, one_or_two}
 use Rattle.mt_fault.specs.declared.fault.Fault.{Fault}
 
 -- no cell passes

@@ -5,9 +5,8 @@ use Rattle.std.specs.Prelude.{◌⊎◌}
 use Rattle.std.specs.List.{list_any}
 use Rattle.std.proofs.lemmas.Bool.{eq-eqb, eqb-true, cases_Bool, both_ways}
 use Rattle.mt_fault.specs.History.{Access, Read, Write, History, plain}
-use Rattle.mt_fault.specs.Faulty.{address, cells_of, moved, rerouted, stored_under, answer_under, with_victim}
+use Rattle.mt_fault.specs.Faulty.{address, cells_of, moved, rerouted, stored_under, answer_under}
 use Rattle.mt_fault.specs.Projection.{names}
-use Rattle.mt_fault.specs.declared.fault.Spot.{Spot}
 use Rattle.mt_fault.specs.declared.fault.Fault.{Fault}
 use Rattle.mt_fault.specs.declared.fault.Fault.TheVariants.{StuckAt, CannotRise, CannotFall, Invert, Force, State, NoCell, Also, Instead}
 use Rattle.mt_fault.proofs.Bits.{off_victim}

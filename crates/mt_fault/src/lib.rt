@@ -16,7 +16,7 @@ pub use cells::Cells;
 pub use fault::{Fault, FaultRefusal, Spot};
 pub use laws::{
     last_access_decides, memory_stays_sound, memory_without_a_fault_is_plain,
-    other_words_are_plain, other_words_do_not_matter, placement_is_tested, rules_agree_with_histories,
-    sound_memory_comes_and_goes, span_begins, span_may_be_cut, test_accesses_may_be_cut,
-    two_cells_answer_bit_by_bit,
+    other_words_are_plain, other_words_do_not_matter, placement_is_tested,
+    rules_agree_with_histories, sound_memory_comes_and_goes, span_begins, span_may_be_cut,
+    test_accesses_may_be_cut, two_cells_answer_bit_by_bit,
 };

@@ -16,3 +16,4 @@ pub mod NamedLists
 pub mod NamedRuns
 pub mod Apart
 pub mod NamedCells
+pub mod FirstMoments

@@ -1,19 +1,18 @@
 -- The cells that a fault names, as they are read, and how many accesses are made of them.
-use Rattle.std.proofs.Common.{ℕ, zero, suc, ◌+◌, ◌-◌, ◌<◌, ◌≤◌, ◌≡◌, Bool, true, false, List, [], ◌∷◌, ◌++◌, map, length, get_or, Option, Some, None, refl, ap, sym, ◌∙◌, subst, arith, length-append}
+use Rattle.std.proofs.Common.{ℕ, ◌+◌, ◌<◌, ◌≤◌, ◌≡◌, Bool, true, List, [], ◌∷◌, ◌++◌, map, length, get_or, Option, Some, None, refl, ap, sym, ◌∙◌, subst, arith, length-append}
 use Rattle.std.specs.Prelude.{All, nat_lt, slice_index, if◌then◌else◌}
-use Rattle.std.specs.List.{filter, range_with_len}
+use Rattle.std.specs.List.{range_with_len}
 use Rattle.std.proofs.lemmas.List.{length-map}
 use Rattle.std.proofs.lemmas.List.Elements.{All-filter, All-tail}
 use Rattle.mt_word.specs.declared.Width.{Width}
 use Rattle.mt_word.specs.Word.{complement_of}
 use Rattle.mt_fault.specs.declared.fault.Fault.{Fault}
 use Rattle.mt_fault.specs.Faulty.{answer}
-use Rattle.mt_fault.specs.Items.{Item, Look, Store}
+use Rattle.mt_fault.specs.Items.{Look, Store}
 use Rattle.mt_fault.specs.Projection.{cells_of_fault, is_of_fault}
 use Rattle.mt_plan.specs.declared.algorithm.Algorithm.{Algorithm}
 use Rattle.mt_plan.specs.declared.algorithm.Policy.{Policy}
 use Rattle.mt_plan.specs.declared.algorithm.Policy.TheVariants.{NonDestructive}
-use Rattle.mt_plan.specs.Lists.{cells}
 use Rattle.mt_port.specs.declared.board.Touch.{Touch}
 use Rattle.mt_port.specs.Board.{Board, Logs, answered}
 use Rattle.mt_port.specs.Tape.{is_over}
@@ -21,8 +20,7 @@ use Rattle.mt_seq.specs.declared.own.Named.{Named}
 use Rattle.mt_seq.specs.declared.sequence.Frame.{Frame}
 use Rattle.mt_seq.specs.declared.sequence.Job.{Job}
 use Rattle.mt_seq.specs.declared.sequence.Slice.{Slice}
-use Rattle.mt_seq.specs.declared.span.Ground.{Ground}
-use Rattle.mt_seq.specs.Inner.Own.{named_cells, named_on, own_accesses, own_looks, own_steps, own_stores, read_cell}
+use Rattle.mt_seq.specs.Inner.Own.{named_cells, own_accesses, own_looks, own_steps, own_stores, read_cell}
 use Rattle.mt_seq.specs.Sequence.{back_of, is_transparent, saved_words, sequence, sequence_hold}
 use Rattle.mt_seq.specs.Stepping.{job_of}
 use Rattle.mt_seq.proofs.Apart.{own_few}

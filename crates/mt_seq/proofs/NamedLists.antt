@@ -1,7 +1,7 @@
 -- The accesses on the cells that a fault names, among all accesses of a sequence.
-use Rattle.std.proofs.Common.{ℕ, zero, suc, ◌+◌, ◌<◌, ◌≡◌, ◌≢◌, ◌==◌, Bool, true, false, cond, List, [], ◌∷◌, ◌++◌, map, reverse, Option, refl, ap, sym, ◌∙◌, arith, inl, inr, append-nil}
-use mathlib.Core.Bool.{not, ◌||◌}
-use Rattle.std.specs.Prelude.{All, slice_index, if◌then◌else◌}
+use Rattle.std.proofs.Common.{ℕ, zero, suc, ◌+◌, ◌<◌, ◌≡◌, ◌==◌, Bool, true, false, cond, List, [], ◌∷◌, ◌++◌, map, reverse, Option, refl, ap, sym, ◌∙◌, arith, inl, inr, append-nil}
+use mathlib.Core.Bool.{not}
+use Rattle.std.specs.Prelude.{All, slice_index}
 use Rattle.std.specs.List.{filter, flat_map, list_any, range_with_len}
 use Rattle.std.proofs.lemmas.Bool.{cases_Bool, cases_eq, eq-eqb, ne_eqb}
 use Rattle.std.proofs.lemmas.List.{map-append, reverse-append}

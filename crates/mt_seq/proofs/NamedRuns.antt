@@ -1,7 +1,7 @@
 -- Accesses that are made piece by piece, with room to count them.
 use Rattle.std.proofs.Common.{ℕ, zero, suc, ◌+◌, ◌<◌, ◌≤◌, ◌≡◌, Bool, true, false, cond, List, [], ◌∷◌, ◌++◌, map, take, reverse, length, get_or, Option, Some, refl, ap, sym, ◌∙◌, subst, arith, add-one, append-nil, length-append, inl, inr}
 use mathlib.Core.Bool.{◌&&◌}
-use Rattle.std.specs.Prelude.{All, not, slice_get, if◌then◌else◌}
+use Rattle.std.specs.Prelude.{not, slice_get, if◌then◌else◌}
 use Rattle.std.proofs.lemmas.Option.{slice_get_within}
 use Rattle.std.specs.List.{filter, flat_map}
 use Rattle.std.proofs.lemmas.Bool.{cases_lt}

@@ -345,6 +345,12 @@ cell_of f (suc n) j d h =
       | inr e ↦ get_or-append (map f (cells n)) (f n ∷ []) d j (omega arith) ∙ cell_of f n j d (omega arith)
     ]
 
+-- maps that agree on the cells are one
+pub map_below : {X : Type 0} (f g : ℕ → X) (n : ℕ) → ((c : ℕ) → c < n → f c ≡ g c) → map f (cells n) ≡ map g (cells n)
+map_below f g zero same = refl
+map_below {X} f g (suc n) same =
+    map-append f (cells n) (n ∷ []) ∙ ap (λ (l : List X). l ++ f n ∷ []) (map_below f g n (λ c h. same c (omega arith))) ∙ ap (λ (x : X). map g (cells n) ++ x ∷ []) (same n (omega arith)) ∙ sym (map-append g (cells n) (n ∷ []))
+
 -- no access of a sequence is at another address than those of its slice
 abbrev pub Off : ℕ → Item → Type 0
 Off a item = place item ≢ a
@@ -367,7 +373,7 @@ off_testing width job slice saved steps a out in' =
     All-map (Off a) (item_of width slice.first (back_of job saved)) steps
     (λ k d h. λ e. out _ (in' k d h) (sym (place_act width _ _ (get_or steps k d).act) ∙ e))
 
-off_ending : (job : Job) (slice : Slice) (saved : List ℕ) (a : ℕ) → Outside slice a → All (Off a) (ending job slice saved)
+pub off_ending : (job : Job) (slice : Slice) (saved : List ℕ) (a : ℕ) → Outside slice a → All (Off a) (ending job slice saved)
 off_ending job slice saved a out = All-map (Off a) (λ (cell : ℕ). Store (slice.first + cell) (last_of job.policy job.fill saved cell)) (cells slice.n) (λ k d h. out _ (cells_below slice.n k d h))
 
 -- what stands at an address after a sequence
@@ -455,7 +461,7 @@ plain_words : (words : List ℕ) (h : History) → words_after None words h ≡ 
 unfolding words_after stored
 plain_words words h = refl
 
-left_front : (b : Board) (job : Job) (slice : Slice) (front : List Item) → b.fault ≡ None → ((a : ℕ) → Outside slice a → All (Off a) front)
+pub left_front : (b : Board) (job : Job) (slice : Slice) (front : List Item) → b.fault ≡ None → ((a : ℕ) → Outside slice a → All (Off a) front)
     → words_after b.fault b.words (history (front ++ ending job slice (saved_words job.policy b.fault b.words slice))) ≡ left_words b.words job.policy slice job.fill
 left_front b job slice front none off =
     let items : List Item = front ++ ending job slice (saved_words job.policy b.fault b.words slice) in
@@ -490,7 +496,7 @@ looks_stay b items none all =
     ∙ map-range _ _ (λ a. ap (λ (k : History). plain b.words k a) (sym (append-nil (history items))) ∙ plain_looks b.words a items [] all) (range_with_len 0 (length b.words))
     ∙ sym (plain_none b.words)
 
-backed_out_stays : (b : Board) (job : Job) (slice : Slice) (i : ℕ) → b.fault ≡ None → IsAccepted job.alg → job.policy ≡ NonDestructive
+pub backed_out_stays : (b : Board) (job : Job) (slice : Slice) (i : ℕ) → b.fault ≡ None → IsAccepted job.alg → job.policy ≡ NonDestructive
     → words_after b.fault b.words (history (backed_out b job slice i)) ≡ b.words
 unfolding sequence accesses_of
 backed_out_stays b job slice i none accepted keeps =

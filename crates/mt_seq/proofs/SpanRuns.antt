@@ -1,15 +1,13 @@
 -- A course that makes a span of its algorithm's accesses.
-use Rattle.std.proofs.Common.{ℕ, zero, suc, ◌≡◌, ◌+◌, ◌<◌, ◌≤◌, Bool, true, false, List, [], ◌∷◌, ◌++◌, map, take, length, append-nil, append_assoc, refl, arith, ap, sym, ◌∙◌, subst, Option, Some}
+use Rattle.std.proofs.Common.{ℕ, suc, ◌≡◌, ◌+◌, ◌≤◌, Bool, false, List, [], ◌∷◌, ◌++◌, map, take, length, append-nil, append_assoc, refl, arith, ap, sym, ◌∙◌, subst, Option, Some}
 use Rattle.std.specs.Prelude.{All, not, slice_get, slice_index, if◌then◌else◌}
-use mathlib.Core.Bool.{◌||◌, ◌&&◌}
+use mathlib.Core.Bool.{◌||◌}
 use Rattle.std.proofs.lemmas.List.{length-map}
 use Rattle.std.proofs.lemmas.List.Elements.{All-nil}
 use Rattle.mt_word.specs.declared.Width.{Width}
 use Rattle.mt_word.specs.Word.{Fits}
-use Rattle.mt_fault.specs.Items.{Item}
 use Rattle.mt_plan.specs.declared.algorithm.Algorithm.{Algorithm}
 use Rattle.mt_plan.specs.declared.algorithm.Algorithm.TheVariants.{Checkerboard, March, WalkPath, Galpat, TransparentGalpat}
-use Rattle.mt_plan.specs.declared.algorithm.Policy.{Policy}
 use Rattle.mt_plan.specs.declared.algorithm.Step.{Step}
 use Rattle.mt_plan.specs.declared.cursor.Steps.{Steps}
 use Rattle.mt_plan.specs.declared.line.Line.{Line}
@@ -19,15 +17,15 @@ use Rattle.mt_plan.specs.Plan.{steps_of}
 use Rattle.mt_plan.proofs.Items.{in_front, behind, at_map}
 use Rattle.mt_port.specs.declared.board.Shape.{Shape}
 use Rattle.mt_port.specs.declared.board.Touch.{Touch}
-use Rattle.mt_port.specs.Board.{Board, IsSound}
+use Rattle.mt_port.specs.Board.{Board}
 use Rattle.mt_seq.specs.declared.course.Course.{Course}
 use Rattle.mt_seq.specs.declared.sequence.Job.{Job}
 use Rattle.mt_seq.specs.declared.sequence.Slice.{Slice}
 use Rattle.mt_seq.specs.declared.span.Ground.{Ground}
 use Rattle.mt_seq.specs.Inner.Ground.{IsGround, item_on}
 use Rattle.mt_seq.specs.Makes.{Makes}
-use Rattle.mt_seq.specs.Sequence.{accesses_of, back_of, ending, is_transparent, listed, saved_words, saving, sequence, testing}
-use Rattle.mt_seq.specs.Stepping.{Stepping, view_of, IsCourse, IsReady, IsUnderway, Runs, RunsOf}
+use Rattle.mt_seq.specs.Sequence.{accesses_of, back_of, ending, is_transparent, saved_words, saving, sequence, testing}
+use Rattle.mt_seq.specs.Stepping.{Stepping, view_of, IsCourse, IsReady, Runs, RunsOf}
 use Rattle.mt_seq.proofs.Makes.{Makes-append}
 use Rattle.mt_seq.proofs.Moves.{kept_whole}
 use Rattle.mt_seq.proofs.Underway.{differs_more, take_more, whole_saved}

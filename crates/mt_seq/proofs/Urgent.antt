@@ -19,7 +19,7 @@ use Rattle.mt_seq.proofs.Attempts.{IsDropped, dropped, hold_length, keeping_hold
 use Rattle.mt_seq.proofs.Lengths.{length-ending}
 use Rattle.mt_seq.proofs.Moments.{not_found}
 
-backed_out_long : (b : Board) (job : Job) (slice : Slice) (i : ℕ) → i ≤ sequence_hold job slice.n → length (backed_out b job slice i) ≡ (if nat_lt slice.n i then i + slice.n else i)
+pub backed_out_long : (b : Board) (job : Job) (slice : Slice) (i : ℕ) → i ≤ sequence_hold job slice.n → length (backed_out b job slice i) ≡ (if nat_lt slice.n i then i + slice.n else i)
 backed_out_long b job slice i h =
     let saved : List ℕ = saved_words job.policy b.fault b.words slice in
     let front : length (take i (sequence b job slice)) ≡ i = omega (arith, length-take i (sequence b job slice), hold_length b job slice) in

@@ -19,6 +19,10 @@ abbrev pub keeps_words : Policy → Bool
 keeps_words NonDestructive = true
 keeps_words Destructive = false
 
+-- whether an attempt may be given up after so many accesses: the words are kept, and the writes that end it have not begun
+abbrev pub may_back_out : Job → ℕ → ℕ → Bool
+may_back_out job n made = keeps_words job.policy && nat_lt made (n + length (steps_of job.alg n))
+
 -- the moments at which an attempt may be dropped: after at least one access, and before the writes that end it
 abbrev pub moments : Algorithm → ℕ → List ℕ
 moments alg n = range_with_len 1 (n + length (steps_of alg n) - 1)
@@ -32,6 +36,10 @@ dropped_at may b job slice = if may && keeps_words job.policy then find (λ i. i
 abbrev pub backed_out : Board → Job → Slice → ℕ → List Item
 backed_out b job slice i =
     take i (sequence b job slice) ++ (if nat_lt slice.n i then ending job slice (saved_words job.policy b.fault b.words slice) else [])
+
+-- how many they are
+abbrev pub part_length : ℕ → ℕ → ℕ
+part_length n i = if nat_lt n i then i + n else i
 
 -- the accesses of an attempt that is dropped there, or that is not
 abbrev pub attempt_to : Board → Job → Slice → Option ℕ → List Item

@@ -1,5 +1,5 @@
 -- What sequences answer on sound memory, and under a fault that the algorithm catches, and what a flash sequence finds.
-use Rattle.std.specs.Prelude.{ℕ, ◌+◌, ◌*◌, ◌<◌, ◌≤◌, ◌≡◌, nat_le, nat_lt, All, not, Bool, true, false, if◌then◌else◌, List, [], map, length, slice_index, Option, Some, None, ◌&&◌}
+use Rattle.std.specs.Prelude.{ℕ, ◌+◌, ◌*◌, ◌<◌, ◌≤◌, ◌≡◌, ◌≢◌, nat_le, nat_lt, All, not, Bool, true, false, if◌then◌else◌, List, [], map, length, slice_index, Option, Some, None, ◌&&◌}
 use Rattle.std.specs.List.{filter, range_with_len}
 use Rattle.mt_fault.specs.History.{History}
 use Rattle.mt_fault.specs.Faulty.{words_after}
@@ -14,7 +14,7 @@ use Rattle.mt_seq.specs.Makes.{Makes}
 use Rattle.mt_seq.specs.Stepping.{Stepping, begun, IsStep, IsUnderway}
 use Rattle.mt_port.specs.declared.request.Request.{Request}
 use Rattle.mt_seq.specs.declared.sequence.Verdict.{Verdict}
-use Rattle.mt_seq.specs.Attempts.{attempt_length, attempt_touches, attempt_verdict, attempt_words, dropped_at}
+use Rattle.mt_seq.specs.Attempts.{may_back_out, part_length, attempt_length, attempt_touches, attempt_verdict, attempt_words, dropped_at}
 use Rattle.mt_seq.specs.declared.sequence.Slice.{Slice}
 use Rattle.mt_seq.specs.declared.sequence.Job.{Job}
 use Rattle.mt_seq.specs.declared.sequence.Verdict.TheVariants.{Pass, Fail}
@@ -105,7 +105,7 @@ WholeAttemptsPass =
 -- how many accesses an attempt on n words has, by where it is dropped
 abbrev pub length_to : Job → ℕ → Option ℕ → ℕ
 length_to job n None = sequence_hold job n
-length_to job n (Some i) = if nat_lt n i then i + n else i
+length_to job n (Some i) = part_length n i
 
 abbrev pub AttemptsAreCounted : Type 0
 AttemptsAreCounted = (may : Bool) (b : Board) (job : Job) (slice : Slice) → attempt_length may b job slice ≡ length_to job slice.n (dropped_at may b job slice)
@@ -148,3 +148,29 @@ abbrev pub NothingIsFoundWhereAllEqual : Type 0
 NothingIsFoundWhereAllEqual =
     (flash : List ℕ) (first copy n : ℕ)
     → (comparison flash first copy n ≡ None → EqualsCopy flash first copy n) × (EqualsCopy flash first copy n → comparison flash first copy n ≡ None)
+
+-- What is known of the moment at which an attempt is dropped: the words are kept, the writes back have not begun, an urgent request
+-- is due there, and none is at an earlier moment.
+pub record IsWhereDropped (may : Bool) (b : Board) (job : Job) (slice : Slice) (i : ℕ) : Type 0 where
+  pub may' : may ≡ true
+  pub early : may_back_out job slice.n i ≡ true
+  pub some : 1 ≤ i
+  pub due : is_urgent_due (b.count + i) b.left ≡ true
+  pub first : (j : ℕ) → 1 ≤ j → j < i → is_urgent_due (b.count + j) b.left ≡ false
+
+-- an attempt is dropped exactly at the first moment at which it may be given up and an urgent request is due
+abbrev pub AttemptsEndAtTheFirstMoment : Type 0
+AttemptsEndAtTheFirstMoment =
+    (may : Bool) (b : Board) (job : Job) (slice : Slice) (i : ℕ)
+    → (dropped_at may b job slice ≡ Some i → IsWhereDropped may b job slice i) × (IsWhereDropped may b job slice i → dropped_at may b job slice ≡ Some i)
+
+-- What is known of the address that a comparison tells: the word there differs from its copy, and none before it does.
+pub record IsFirstDifference (flash : List ℕ) (first copy n a : ℕ) : Type 0 where
+  pub cell : ℕ
+  pub here : a ≡ first + cell
+  pub within : cell < n
+  pub differs : slice_index flash (first + cell) ≢ slice_index flash (copy + cell)
+  pub before : (k : ℕ) → k < cell → slice_index flash (first + k) ≡ slice_index flash (copy + k)
+
+abbrev pub ComparisonsFindTheFirst : Type 0
+ComparisonsFindTheFirst = (flash : List ℕ) (first copy n a : ℕ) → comparison flash first copy n ≡ Some a → IsFirstDifference flash first copy n a

@@ -9,7 +9,7 @@ ghost use Rattle.mt_plan.specs.Lists.{cells};
 ghost use Rattle.mt_plan.specs.Plan.{IsAccepted, steps_of};
 ghost use Rattle.mt_port.specs.Board.{Logs, is_due};
 ghost use Rattle.mt_port.specs.Tape.{is_over};
-ghost use Rattle.mt_seq.specs.Attempts.{attempt_length, attempt_touches, attempt_verdict, attempt_words, backed_out, dropped_at};
+ghost use Rattle.mt_seq.specs.Attempts.{attempt_length, attempt_touches, attempt_verdict, attempt_words, backed_out, dropped_at, part_length};
 ghost use Rattle.mt_seq.specs.Laws.{left_words};
 ghost use Rattle.mt_seq.specs.Makes.{Makes};
 ghost use Rattle.mt_seq.specs.Sequence.{sequence, sequence_hold, sequence_touches, sequence_verdict, sequence_words, IsSoundJob, IsSoundSlice};
@@ -93,25 +93,6 @@ fn make_each<P: Port>(port: &mut P, alg: &Algorithm, frame: Frame, slice: Slice)
     !course.differs()
 }
 
-/// The cells whose accesses decide a sequence of so many accesses, if the port says which they are. In a test that fills the cells
-/// all are made.
-fn deciding_cells<P: Port>(
-    port: &P,
-    policy: Policy,
-    slice: Slice,
-    hold: u32,
-) -> Option<ArrayVec<u8, 2>>
-    ensures keeps { IfSome result (λ cells. policy ≡ Policy.NonDestructive) }
-    ensures cells { IfSome result
-        (λ cells. cells.items ≡ cells_of_fault (P.state port.now).fault slice.first slice.n) }
-    ensures over { IfSome result (λ cells. is_over P.keeps (P.tape port.now) hold ≡ true) }
-{
-    match policy {
-        Policy::NonDestructive => port.cells_to_test(slice.first, slice.n, hold),
-        Policy::Destructive => None,
-    }
-}
-
 /// A sequence that keeps the words, of which the accesses of the fault's cells alone are made, and all are counted.
 fn make_decided<P: Port>(
     port: &mut P,
@@ -137,7 +118,79 @@ fn make_decided<P: Port>(
     good
 }
 
-/// All accesses of the sequence. If the port says which cells decide it, the accesses of these alone are made, and all are counted.
+/// A test that keeps the words: if the port says which cells decide it, the accesses of these alone.
+fn make_keeping<P: Port>(port: &mut P, alg: &Algorithm, frame: Frame, slice: Slice) -> bool
+    requires held { (P.state port.old).held ≡ true }
+    requires job { IsSoundJob (P.state port.old).shape.width (job_of alg.now frame) }
+    requires slice { IsSoundSlice (P.state port.old).shape.ram slice }
+    requires keeps { frame.policy ≡ Policy.NonDestructive }
+    requires room { (P.state port.old).count + sequence_hold (job_of alg.now frame) slice.n < 2 ^ 32 }
+    ensures { Makes (sequence (P.state port.old) (job_of alg.now frame) slice)
+        (P.state port.old) (P.state port.new) (P.tape port.old) (P.tape port.new) result }
+{
+    let hold = hold_of(alg, frame.policy, u32::from(slice.n));
+    match port.cells_to_test(slice.first, slice.n, hold) {
+        Some(cells) => make_decided(port, alg, frame, slice, cells.as_slice()),
+        None => make_each(port, alg, frame, slice),
+    }
+}
+
+/// Writes one word into each cell.
+fn fill<P: Port>(port: &mut P, slice: Slice, word: u64)
+    requires held { (P.state port.old).held ≡ true }
+    requires inside { slice.first + slice.n ≤ (P.state port.old).shape.ram }
+    requires fits { Fits (P.state port.old).shape.width word }
+    requires room { (P.state port.old).count + slice.n < 2 ^ 32 }
+    ensures { Makes (map (λ cell. Store (slice.first + cell) word) (cells slice.n))
+        (P.state port.old) (P.state port.new) (P.tape port.old) (P.tape port.new) true }
+{
+    for cell in 0..slice.n {
+        let access = Access::Store {
+            addr: slice.first + u32::from(cell),
+            word,
+        };
+        let _ = access.make(port);
+    }
+}
+
+/// A test that fills a slice which the fault spares: the writes of the fill alone are made, and all accesses are counted.
+fn make_fill<P: Port>(port: &mut P, alg: &Algorithm, frame: Frame, slice: Slice)
+    requires held { (P.state port.old).held ≡ true }
+    requires job { IsSoundJob (P.state port.old).shape.width (job_of alg.now frame) }
+    requires slice { IsSoundSlice (P.state port.old).shape.ram slice }
+    requires fills { frame.policy ≡ Policy.Destructive }
+    requires spared { cells_of_fault (P.state port.old).fault slice.first slice.n ≡ [] }
+    requires over { is_over P.keeps (P.tape port.old) (sequence_hold (job_of alg.now frame) slice.n) ≡ true }
+    requires room { (P.state port.old).count + sequence_hold (job_of alg.now frame) slice.n < 2 ^ 32 }
+    ensures { Makes (sequence (P.state port.old) (job_of alg.now frame) slice)
+        (P.state port.old) (P.state port.new) (P.tape port.old) (P.tape port.new) true }
+{
+    let end = port.made() + hold_of(alg, frame.policy, u32::from(slice.n));
+    fill(port, slice, frame.fill);
+    port.count_up_to(end);
+}
+
+/// A test that fills the slice.
+fn make_filling<P: Port>(port: &mut P, alg: &Algorithm, frame: Frame, slice: Slice) -> bool
+    requires held { (P.state port.old).held ≡ true }
+    requires job { IsSoundJob (P.state port.old).shape.width (job_of alg.now frame) }
+    requires slice { IsSoundSlice (P.state port.old).shape.ram slice }
+    requires fills { frame.policy ≡ Policy.Destructive }
+    requires room { (P.state port.old).count + sequence_hold (job_of alg.now frame) slice.n < 2 ^ 32 }
+    ensures { Makes (sequence (P.state port.old) (job_of alg.now frame) slice)
+        (P.state port.old) (P.state port.new) (P.tape port.old) (P.tape port.new) result }
+{
+    let hold = hold_of(alg, frame.policy, u32::from(slice.n));
+    match port.cells_to_test(slice.first, slice.n, hold) {
+        Some(cells) if cells.is_empty() => {
+            make_fill(port, alg, frame, slice);
+            true
+        }
+        _ => make_each(port, alg, frame, slice),
+    }
+}
+
+/// All accesses of the sequence.
 fn make_whole<P: Port>(port: &mut P, alg: &Algorithm, frame: Frame, slice: Slice) -> bool
     requires held { (P.state port.old).held ≡ true }
     requires job { IsSoundJob (P.state port.old).shape.width (job_of alg.now frame) }
@@ -146,15 +199,14 @@ fn make_whole<P: Port>(port: &mut P, alg: &Algorithm, frame: Frame, slice: Slice
     ensures { Makes (sequence (P.state port.old) (job_of alg.now frame) slice)
         (P.state port.old) (P.state port.new) (P.tape port.old) (P.tape port.new) result }
 {
-    let hold = hold_of(alg, frame.policy, u32::from(slice.n));
-    match deciding_cells(port, frame.policy, slice, hold) {
-        Some(cells) => make_decided(port, alg, frame, slice, cells.as_slice()),
-        None => make_each(port, alg, frame, slice),
+    match frame.policy {
+        Policy::NonDestructive => make_keeping(port, alg, frame, slice),
+        Policy::Destructive => make_filling(port, alg, frame, slice),
     }
 }
 
-/// So many accesses of the sequence, and where the algorithm has begun, the writes of the saved words.
-fn make_part<P: Port>(port: &mut P, alg: &Algorithm, frame: Frame, slice: Slice, until: u32)
+/// So many accesses of the sequence, and where the algorithm has begun, the writes of the saved words, one after another.
+fn make_part_singly<P: Port>(port: &mut P, alg: &Algorithm, frame: Frame, slice: Slice, until: u32)
     requires held { (P.state port.old).held ≡ true }
     requires job { IsSoundJob (P.state port.old).shape.width (job_of alg.now frame) }
     requires slice { IsSoundSlice (P.state port.old).shape.ram slice }
@@ -169,6 +221,51 @@ fn make_part<P: Port>(port: &mut P, alg: &Algorithm, frame: Frame, slice: Slice,
     course.run(port, alg, frame, until);
     if until > u32::from(slice.n) {
         restore(port, slice, course.saved());
+    }
+}
+
+/// An attempt that is broken off on a slice which the fault spares: no access is made, and all are counted.
+fn count_part<P: Port>(port: &mut P, _alg: &Algorithm, _frame: Frame, slice: Slice, until: u32)
+    requires held { (P.state port.old).held ≡ true }
+    requires job { IsSoundJob (P.state port.old).shape.width (job_of _alg.now _frame) }
+    requires slice { IsSoundSlice (P.state port.old).shape.ram slice }
+    requires keeps { _frame.policy ≡ Policy.NonDestructive }
+    requires until { until < slice.n + length (steps_of _alg.now slice.n) }
+    requires spared { cells_of_fault (P.state port.old).fault slice.first slice.n ≡ [] }
+    requires over { is_over P.keeps (P.tape port.old) (part_length slice.n until) ≡ true }
+    requires room { (P.state port.old).count + sequence_hold (job_of _alg.now _frame) slice.n < 2 ^ 32 }
+    ensures { Makes (backed_out (P.state port.old) (job_of _alg.now _frame) slice until) (P.state port.old)
+        (P.state port.new) (P.tape port.old) (P.tape port.new)
+        (passes (P.state port.old).fault (P.state port.old).words [] (backed_out (P.state port.old) (job_of _alg.now _frame) slice until)) }
+{
+    let end = port.made() + part_length(slice, until);
+    port.count_up_to(end);
+}
+
+/// How many accesses an attempt has that is broken off after so many.
+fn part_length(slice: Slice, until: u32) -> u32
+    requires { until < 2 ^ 31 }
+    ensures { result ≡ part_length slice.n until }
+{
+    let n = u32::from(slice.n);
+    if n < until { until + n } else { until }
+}
+
+/// The accesses of an attempt that is broken off after so many, with the writes that put the words back.
+fn make_part<P: Port>(port: &mut P, alg: &Algorithm, frame: Frame, slice: Slice, until: u32)
+    requires held { (P.state port.old).held ≡ true }
+    requires job { IsSoundJob (P.state port.old).shape.width (job_of alg.now frame) }
+    requires slice { IsSoundSlice (P.state port.old).shape.ram slice }
+    requires keeps { frame.policy ≡ Policy.NonDestructive }
+    requires until { until < slice.n + length (steps_of alg.now slice.n) }
+    requires room { (P.state port.old).count + sequence_hold (job_of alg.now frame) slice.n < 2 ^ 32 }
+    ensures { Makes (backed_out (P.state port.old) (job_of alg.now frame) slice until) (P.state port.old)
+        (P.state port.new) (P.tape port.old) (P.tape port.new)
+        (passes (P.state port.old).fault (P.state port.old).words [] (backed_out (P.state port.old) (job_of alg.now frame) slice until)) }
+{
+    match port.cells_to_test(slice.first, slice.n, part_length(slice, until)) {
+        Some(cells) if cells.is_empty() => count_part(port, alg, frame, slice, until),
+        _ => make_part_singly(port, alg, frame, slice, until),
     }
 }
 

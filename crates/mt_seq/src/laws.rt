@@ -1,6 +1,6 @@
 //! Laws of sequences.
 
-ghost use Rattle.mt_seq.specs.Laws.{OwnAccessesDecide, SoundMemoryPasses, SoundMemoryStays, CaughtFaultsFail, SequencesAreShort, HoldsAreLengths, ComparisonsArePairs, NothingIsFoundWhereAllEqual};
+ghost use Rattle.mt_seq.specs.Laws.{AttemptsEndAtTheFirstMoment, ComparisonsFindTheFirst, OwnAccessesDecide, SoundMemoryPasses, SoundMemoryStays, CaughtFaultsFail, SequencesAreShort, HoldsAreLengths, ComparisonsArePairs, NothingIsFoundWhereAllEqual};
 ghost use Rattle.mt_seq.specs.Laws.{SequencesBegin, SequencesGoOn, SequencesEnd, AttemptsAreCounted, AttemptsAreShort, AttemptsAreTold, NoAttemptIsEmpty, DroppedAttemptsServe, DroppedAttemptsStay, UrgentWaitsAreShort, WholeAttemptsPass};
 ghost use Rattle.mt_seq.specs.Told.{AnswersMakeTheSequence, SavedWordsAreWrittenBack, ToldSequencesAreHolds};
 
@@ -71,4 +71,14 @@ pub fn comparisons_are_exact()
 /// fault's words come to.
 pub fn own_accesses_decide()
     ensures { OwnAccessesDecide }
+{}
+
+/// An attempt is dropped exactly at the first moment at which it may be given up and an urgent request is due.
+pub fn attempts_end_at_the_first_moment()
+    ensures { AttemptsEndAtTheFirstMoment }
+{}
+
+/// A comparison tells the first word that differs from its copy.
+pub fn comparisons_find_the_first()
+    ensures { ComparisonsFindTheFirst }
 {}

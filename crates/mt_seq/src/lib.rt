@@ -18,8 +18,9 @@ pub use attempt::{run_slice, try_slice};
 pub use compare::run_compare;
 pub use indexing::access_at;
 pub use laws::{
-    answers_make_the_sequence, attempts_are_counted, attempts_on_sound_memory, caught_faults_fail,
-    comparisons_are_exact, holds_are_lengths, own_accesses_decide, sequences_are_short,
+    answers_make_the_sequence, attempts_are_counted, attempts_end_at_the_first_moment,
+    attempts_on_sound_memory, caught_faults_fail, comparisons_are_exact,
+    comparisons_find_the_first, holds_are_lengths, own_accesses_decide, sequences_are_short,
     sound_memory, steps_make_the_sequence, urgent_requests_wait_shortly,
 };
 pub use sequence::{Frame, Job, Slice, Verdict};

@@ -4,7 +4,7 @@ ghost use Rattle.std.specs.Prelude.{◌≡◌, ◌≢◌, ◌<◌, ◌≤◌, �
 ghost use Rattle.mt_word.specs.Word.{Fits};
 ghost use Rattle.mt_fault.specs.Items.{Item, passes};
 ghost use Rattle.mt_plan.specs.Plan.{IsAccepted, steps_of};
-ghost use Rattle.mt_seq.specs.Attempts.{keeps_words};
+ghost use Rattle.mt_seq.specs.Attempts.{may_back_out};
 ghost use Rattle.mt_seq.specs.Makes.{Makes};
 ghost use Rattle.mt_seq.specs.Sequence.{is_transparent, ending, sequence_hold};
 ghost use Rattle.mt_seq.specs.Stepping.{begun, item_at, item_of_access, place_of, progress_of, stepped, FitsAccess, IsReady, IsStep, Runs};
@@ -123,9 +123,7 @@ impl Stepper {
 
     /// Whether the attempt may still be given up: the words are kept, and the writes that end the sequence have not begun.
     pub fn can_back_out(&self) -> bool
-        ensures { result
-            ≡ (keeps_words self.now.job.policy
-            && nat_lt self.now.made (self.now.slice.n + length (steps_of self.now.job.alg self.now.slice.n))) }
+        ensures { result ≡ may_back_out self.now.job self.now.slice.n self.now.made }
     {
         match self.job.policy {
             Policy::NonDestructive => self.course.made() < self.course.tested_at(),

@@ -1,5 +1,5 @@
 -- The steps of a slice as accesses, as loops make them.
-use Rattle.std.specs.Prelude.{ℕ, ◌+◌, ◌^◌, ◌<◌, ◌≤◌, ◌≡◌, Bool, true, not, All, List, [], ◌∷◌, ◌++◌, map, length, slice_index, if◌then◌else◌, ◌&&◌, Option}
+use Rattle.std.specs.Prelude.{ℕ, ◌+◌, ◌<◌, ◌≤◌, ◌≡◌, Bool, true, not, All, List, [], ◌∷◌, map, length, slice_index, if◌then◌else◌, ◌&&◌, Option}
 use Rattle.std.specs.List.{flat_map}
 use Rattle.mt_word.specs.declared.Width.{Width}
 use Rattle.mt_word.specs.Word.{Fits, complement_of}
@@ -8,7 +8,7 @@ use Rattle.mt_plan.specs.declared.algorithm.Act.{Act}
 use Rattle.mt_plan.specs.declared.algorithm.Step.{Step}
 use Rattle.mt_plan.specs.Accesses.{item_of}
 use Rattle.mt_march.specs.declared.march.Op.{Op}
-use Rattle.mt_plan.specs.Lists.{act_of, is_flipped, is_write, others, read_act, step, write_act}
+use Rattle.mt_plan.specs.Lists.{act_of, is_flipped, is_write, others, read_act, step}
 use Rattle.mt_port.specs.Board.{Board}
 use Rattle.mt_port.specs.declared.board.Touch.{Touch}
 use Rattle.mt_seq.specs.declared.span.Ground.{Ground}

@@ -1,5 +1,5 @@
 -- The accesses of a sequence on the cells that a fault names, as loops make them.
-use Rattle.std.specs.Prelude.{ℕ, ◌+◌, ◌==◌, Bool, true, false, not, All, List, [], ◌++◌, map, reverse, filter, slice_index, if◌then◌else◌}
+use Rattle.std.specs.Prelude.{ℕ, ◌+◌, ◌==◌, Bool, true, false, not, All, List, ◌++◌, map, reverse, filter, slice_index, if◌then◌else◌}
 use Rattle.std.specs.List.{flat_map, list_any}
 use Rattle.mt_word.specs.declared.Width.{Width}
 use Rattle.mt_word.specs.Word.{complement_of}

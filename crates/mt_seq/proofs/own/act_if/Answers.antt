@@ -1,6 +1,5 @@
-use Rattle.std.proofs.Common.{[], ◌∷◌, refl, sym, ap, Bool, List}
+use Rattle.std.proofs.Common.{[], ◌∷◌, refl, sym, ap, Bool}
 use Rattle.std.specs.Prelude.{if◌then◌else◌}
-use Rattle.mt_fault.specs.Items.{Item}
 use Rattle.mt_seq.specs.Inner.Own.{doing}
 use Rattle.mt_seq.proofs.Makes.{Makes-nil, Makes-same}
 use Rattle.mt_seq.proofs.own.act_if.Goals as goal

@@ -1,24 +1,9 @@
-use Rattle.std.proofs.Common.{ℕ, ◌≡◌, ◌==◌, ◌+◌, Bool, true, false, List, [], ◌∷◌, ◌++◌, map, take, reverse, length, get_or, refl, arith, ap, sym, ◌∙◌, subst, append-nil, length-append}
-use Rattle.std.specs.Prelude.{All, if◌then◌else◌, not}
+use Rattle.std.proofs.Common.{ℕ, ◌≡◌, refl, arith, ap, sym}
 use Rattle.std.specs.List.{flat_map}
-use Rattle.std.proofs.lemmas.List.{length-map, take_all}
-use Rattle.std.proofs.lemmas.List.Folds.{length-flat_map-take}
-use Rattle.std.proofs.lemmas.Option.{slice_get-get_or}
-use Rattle.mt_fault.specs.Faulty.{is_odd}
-use Rattle.mt_fault.specs.Items.{Item, Store}
-use Rattle.mt_march.specs.declared.march.Element.{Element}
-use Rattle.mt_march.specs.declared.march.Op.{Op}
-use Rattle.mt_march.specs.declared.march.Order.{Order}
-use Rattle.mt_plan.specs.declared.algorithm.Act.{Act}
-use Rattle.mt_plan.specs.declared.algorithm.Act.TheVariants.{WritePlain, WriteFlipped, ReadPlain, ReadFlipped}
-use Rattle.mt_plan.specs.Lists.{cells, others, read_act, write_act}
-use Rattle.mt_seq.specs.declared.own.Named.{Named}
-use Rattle.mt_seq.specs.Inner.Ground.{IsTarget}
-use Rattle.mt_seq.specs.Inner.Own.{AreTargets, at_base, off_base, own_each, own_element, own_ops, own_pair, own_pairs, turned}
-use Rattle.mt_seq.specs.Makes.{Makes}
+use Rattle.mt_plan.specs.Lists.{cells, others}
+use Rattle.mt_seq.specs.Inner.Own.{own_pair}
 use Rattle.mt_seq.proofs.Makes.{Makes-append, Makes-nil, Makes-same}
-use Rattle.mt_seq.proofs.Spans.{others_more, others_none, others_one}
-use Rattle.mt_seq.proofs.NamedRuns.{Makes-acts, Makes-pieces, all_pieces, each_long, falling_targets, reads_by, reads_by_not, some_cell, more_others, others_fit, targets_after, writes_by, writes_by_not}
+use Rattle.mt_seq.proofs.NamedRuns.{more_others, others_fit, targets_after}
 use Rattle.mt_seq.proofs.own.all_pairs.Goals as goal
 
 pub loop-cell-init : goal.loop-cell-init

@@ -1,20 +1,17 @@
-use Rattle.std.proofs.Common.{ℕ, ◌≡◌, ◌==◌, ◌+◌, Bool, true, false, cond, List, [], ◌∷◌, ◌++◌, take, map, length, get_or, refl, arith, ap, sym, ◌∙◌, subst, inl, inr}
-use Rattle.std.specs.Prelude.{if◌then◌else◌, not, slice_index}
+use Rattle.std.proofs.Common.{◌≡◌, List, [], ◌∷◌, length, get_or, refl, arith, ap, sym, ◌∙◌, subst}
+use Rattle.std.specs.Prelude.{if◌then◌else◌}
 use Rattle.std.specs.List.{flat_map}
 use Rattle.std.proofs.lemmas.List.{length-map, take_all}
 use Rattle.std.proofs.lemmas.List.Folds.{length-flat_map-take}
 use Rattle.std.proofs.lemmas.Option.{slice_get-get_or}
 use Rattle.mt_fault.specs.Faulty.{is_odd}
-use Rattle.mt_fault.specs.Items.{Item, Store}
-use Rattle.mt_march.specs.declared.march.Op.{Op}
+use Rattle.mt_fault.specs.Items.{Item}
 use Rattle.mt_plan.specs.declared.algorithm.Act.{Act}
-use Rattle.mt_plan.specs.Lists.{cells, read_act, write_act}
 use Rattle.mt_seq.specs.declared.own.Named.{Named}
-use Rattle.mt_seq.specs.Inner.Ground.{operation}
-use Rattle.mt_seq.specs.Inner.Own.{at_base, doing, off_base, own_each, own_galpat_base, own_ops, own_pair, own_pairs, own_walk_base}
+use Rattle.mt_seq.specs.Inner.Own.{doing, own_each}
 use Rattle.mt_seq.specs.Makes.{Makes}
-use Rattle.mt_seq.proofs.Makes.{Makes-append, Makes-nil, Makes-same}
-use Rattle.mt_seq.proofs.NamedRuns.{Makes-pieces, all_pieces, cells_fit, kept_pieces, more_cells, some_cell, targets_after}
+use Rattle.mt_seq.proofs.Makes.{Makes-nil, Makes-same}
+use Rattle.mt_seq.proofs.NamedRuns.{Makes-pieces, all_pieces, some_cell, targets_after}
 use Rattle.mt_seq.proofs.own.each.Goals as goal
 
 abbrev piece : Act → Act → Named → List Item

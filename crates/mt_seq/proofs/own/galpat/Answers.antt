@@ -1,4 +1,4 @@
-use Rattle.std.proofs.Common.{Bool, false, true, length, arith, length-append}
+use Rattle.std.proofs.Common.{false, true, arith, length-append}
 use Rattle.mt_seq.specs.Inner.Own.{own_galpat_round}
 use Rattle.mt_seq.proofs.Makes.{Makes-append}
 use Rattle.mt_seq.proofs.NamedRuns.{targets_after}

@@ -1,5 +1,4 @@
-use Rattle.std.proofs.Common.{List, sym, subst}
-use Rattle.mt_seq.specs.declared.own.Named.{Named}
+use Rattle.std.proofs.Common.{sym, subst}
 use Rattle.mt_seq.specs.Inner.Own.{AreTargets}
 use Rattle.mt_seq.proofs.NamedRuns.{falling_targets}
 use Rattle.mt_seq.proofs.own.make_element.Goals as goal

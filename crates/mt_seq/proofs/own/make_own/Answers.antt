@@ -1,4 +1,4 @@
-use Rattle.std.proofs.Common.{ℕ, ◌≡◌, ◌+◌, ◌<◌, Bool, true, List, ◌++◌, length, get_or, map, refl, arith, ap, sym, ◌∙◌, subst}
+use Rattle.std.proofs.Common.{ℕ, ◌≡◌, ◌+◌, ◌<◌, Bool, List, length, map, refl, arith, ap, sym, ◌∙◌, subst}
 use Rattle.std.proofs.Math.Bool.{and-true}
 use Rattle.std.proofs.lemmas.List.{length-map}
 use Rattle.std.specs.Prelude.{All}
@@ -13,7 +13,6 @@ use Rattle.mt_seq.specs.declared.sequence.Frame.{Frame}
 use Rattle.mt_seq.specs.declared.sequence.Slice.{Slice}
 use Rattle.mt_seq.specs.Sequence.{is_transparent}
 use Rattle.mt_seq.specs.declared.own.Named.{Named}
-use Rattle.mt_seq.specs.declared.span.Ground.{Ground}
 use Rattle.mt_seq.specs.declared.sequence.Job.{Job}
 use Rattle.mt_seq.specs.Inner.Own.{named_cells, own_accesses, own_looks, own_steps, own_stores, read_cell}
 use Rattle.mt_seq.specs.Stepping.{job_of}

@@ -1,7 +1,6 @@
 use Rattle.std.proofs.Common.{ℕ, ◌≡◌, ◌==◌, Bool, false, List, length, refl, arith, ap, sym, ◌∙◌}
 use Rattle.std.specs.Prelude.{if◌then◌else◌}
 use Rattle.std.specs.List.{flat_map, list_any}
-use Rattle.mt_fault.specs.Items.{Item}
 use Rattle.mt_plan.specs.Lists.{cells, others, read_act}
 use Rattle.mt_seq.specs.declared.own.Named.{Named}
 use Rattle.mt_seq.specs.Inner.Own.{off_base, own_each, own_pair, own_pairs}

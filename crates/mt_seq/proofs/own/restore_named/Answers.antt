@@ -1,8 +1,8 @@
-use Rattle.std.proofs.Common.{ℕ, ◌≡◌, ◌+◌, ◌<◌, true, List, [], ◌∷◌, map, take, length, get_or, refl, arith, ap, sym, ◌∙◌, subst}
+use Rattle.std.proofs.Common.{List, take, get_or, refl, arith, ap, sym, subst}
 use Rattle.std.proofs.lemmas.List.{length-map, length-take-le, take_all}
 use Rattle.std.proofs.lemmas.Option.{slice_get-get_or}
 use Rattle.mt_word.specs.Word.{Fits}
-use Rattle.mt_fault.specs.Items.{Item, Store}
+use Rattle.mt_fault.specs.Items.{Store}
 use Rattle.mt_port.specs.declared.board.Shape.{Shape}
 use Rattle.mt_seq.specs.declared.own.Named.{Named}
 use Rattle.mt_seq.specs.Inner.Own.{own_stores}

@@ -1,4 +1,4 @@
-use Rattle.std.proofs.Common.{ℕ, [], ◌∷◌, ◌+◌, ap, sym, ◌∙◌, refl}
+use Rattle.std.proofs.Common.{ℕ, [], ◌∷◌, ◌+◌, ap, ◌∙◌, refl}
 use Rattle.mt_fault.specs.Items.{Look}
 use Rattle.mt_fault.proofs.Steps.{words_read}
 use Rattle.mt_port.specs.Board.{Board}

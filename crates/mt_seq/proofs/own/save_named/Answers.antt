@@ -1,20 +1,19 @@
-use Rattle.std.proofs.Common.{ℕ, ◌≡◌, ◌+◌, ◌<◌, true, List, [], ◌∷◌, ◌++◌, map, take, length, get_or, Option, refl, arith, ap, sym, ◌∙◌, subst, add-one}
+use Rattle.std.proofs.Common.{ℕ, ◌≡◌, ◌+◌, ◌<◌, List, [], ◌∷◌, ◌++◌, map, take, length, get_or, Option, refl, arith, ap, sym, ◌∙◌, subst, add-one}
 use Rattle.std.specs.Prelude.{All}
 use Rattle.std.proofs.Math.Seq.{take-suc}
 use Rattle.std.proofs.lemmas.List.{length-map, length-take-le, map-append, take_all}
 use Rattle.std.proofs.lemmas.List.Elements.{All-append, All-cons, All-nil}
 use Rattle.std.proofs.lemmas.Option.{slice_get-get_or}
-use Rattle.mt_word.specs.declared.Width.{Width}
 use Rattle.mt_word.specs.Word.{Fits}
 use Rattle.mt_fault.specs.declared.fault.Fault.{Fault}
-use Rattle.mt_fault.specs.Items.{Item, Look}
+use Rattle.mt_fault.specs.Items.{Look}
 use Rattle.mt_port.specs.declared.board.Shape.{Shape}
 use Rattle.mt_port.specs.Board.{Board, answered}
 use Rattle.mt_seq.specs.declared.own.Named.{Named}
 use Rattle.mt_seq.specs.declared.span.Ground.{Ground}
 use Rattle.mt_seq.specs.declared.span.Target.{Target}
 use Rattle.mt_seq.specs.Inner.Ground.{IsTarget}
-use Rattle.mt_seq.specs.Inner.Own.{AreTargets, named_with, own_looks, read_cell}
+use Rattle.mt_seq.specs.Inner.Own.{named_with, own_looks, read_cell}
 use Rattle.mt_seq.proofs.Makes.{Makes-more, Makes-nil, Makes-same}
 use Rattle.mt_seq.proofs.own.save_named.Goals as goal
 

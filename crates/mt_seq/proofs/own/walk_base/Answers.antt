@@ -1,17 +1,10 @@
-use Rattle.std.proofs.Common.{ℕ, ◌≡◌, ◌+◌, Bool, true, false, List, [], ◌∷◌, ◌++◌, length, refl, arith, ap, sym, ◌∙◌, subst, length-append}
-use Rattle.std.specs.Prelude.{if◌then◌else◌, not}
-use Rattle.std.specs.List.{flat_map}
-use Rattle.mt_fault.specs.Faulty.{is_odd}
-use Rattle.mt_fault.specs.Items.{Item}
-use Rattle.mt_plan.specs.declared.algorithm.Act.{Act}
-use Rattle.mt_plan.specs.declared.algorithm.Act.TheVariants.{WritePlain, WriteFlipped, ReadPlain, ReadFlipped}
-use Rattle.mt_plan.specs.Lists.{cells, others, read_act, write_act}
-use Rattle.mt_port.specs.Board.{Board}
+use Rattle.std.proofs.Common.{Bool, List, arith}
+use Rattle.std.specs.Prelude.{not}
+use Rattle.mt_plan.specs.Lists.{read_act, write_act}
 use Rattle.mt_seq.specs.declared.own.Named.{Named}
-use Rattle.mt_seq.specs.Inner.Own.{AreTargets, at_base, off_base, own_each, own_galpat_base, own_pair, own_pairs, own_walk_base}
-use Rattle.mt_seq.specs.Makes.{Makes}
-use Rattle.mt_seq.proofs.Makes.{Makes-append, Makes-nil, Makes-same}
-use Rattle.mt_seq.proofs.NamedRuns.{Makes-acts, cells_fit, each_long, either, galpat_long, more_cells, reads_by, reads_by_not, targets_after, walk_long, writes_by, writes_by_not}
+use Rattle.mt_seq.specs.Inner.Own.{at_base, off_base}
+use Rattle.mt_seq.proofs.Makes.{Makes-append}
+use Rattle.mt_seq.proofs.NamedRuns.{Makes-acts, each_long, targets_after, walk_long}
 use Rattle.mt_seq.proofs.own.walk_base.Goals as goal
 
 pub on_base-written-requires-clause-room : goal.on_base-written-requires-clause-room

@@ -1,7 +1,6 @@
-use Rattle.std.proofs.Common.{List}
 use Rattle.std.specs.List.{flat_map}
 use Rattle.mt_plan.specs.Lists.{cells}
-use Rattle.mt_seq.specs.Inner.Own.{own_galpat_base, own_walk_base}
+use Rattle.mt_seq.specs.Inner.Own.{own_walk_base}
 use Rattle.mt_seq.specs.Makes.{Makes}
 use Rattle.mt_seq.proofs.own.walk_round.Given as goal
 

@@ -1,10 +1,10 @@
-use Rattle.std.proofs.Common.{ℕ, ◌≡◌, ◌+◌, ◌*◌, List, [], map, length, refl, arith, ap, sym, ◌∙◌, subst}
+use Rattle.std.proofs.Common.{ℕ, ◌≡◌, ◌+◌, ◌*◌, List, [], map, length, refl, arith, ap, ◌∙◌, subst}
 use Rattle.std.specs.List.{flat_map}
 use Rattle.std.proofs.lemmas.List.{length-map}
 use Rattle.mt_word.specs.declared.Width.{Width}
 use Rattle.mt_word.specs.Word.{Fits}
 use Rattle.mt_march.specs.declared.march.Op.{Op}
-use Rattle.mt_plan.specs.Lists.{act_of, cells, ops_on, step}
+use Rattle.mt_plan.specs.Lists.{cells, ops_on}
 use Rattle.mt_plan.specs.Rows.{cell_at}
 use Rattle.mt_seq.specs.declared.span.Target.{Target}
 use Rattle.mt_seq.specs.Inner.Ground.{item_on, operation}

@@ -1,10 +1,8 @@
-use Rattle.std.proofs.Common.{ℕ, List, [], ◌∷◌, map, refl, ap, subst, sym}
-use Rattle.std.specs.Prelude.{not}
-use Rattle.std.specs.List.{flat_map}
+use Rattle.std.proofs.Common.{ℕ, List, map, refl, ap, sym}
 use Rattle.mt_plan.specs.Lists.{read_act, step}
 use Rattle.mt_seq.specs.Inner.Ground.{item_on}
-use Rattle.mt_seq.proofs.Makes.{Makes-append, Makes-nil, Makes-same}
-use Rattle.mt_seq.proofs.Spans.{others_none, others_one}
+use Rattle.mt_seq.proofs.Makes.{Makes-nil, Makes-same}
+use Rattle.mt_seq.proofs.Spans.{others_none}
 use Rattle.mt_seq.proofs.span.read_other.Goals as goal
 
 pub returns-then-cell-base-clause-made : goal.returns-then-cell-base-clause-made

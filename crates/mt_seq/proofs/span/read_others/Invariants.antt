@@ -1,4 +1,4 @@
-use Rattle.std.proofs.Common.{◌≡◌, ◌≤◌, ◌<◌, ◌+◌, ◌*◌, map}
+use Rattle.std.proofs.Common.{◌≡◌, ◌≤◌, ◌<◌, ◌+◌, map}
 use Rattle.mt_plan.specs.Lists.{cells}
 use Rattle.mt_seq.specs.Inner.Ground.{item_on, other_reads}
 use Rattle.mt_seq.specs.Makes.{Makes}

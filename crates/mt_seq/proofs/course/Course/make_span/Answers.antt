@@ -1,11 +1,10 @@
-use Rattle.std.proofs.Common.{ℕ, ◌≡◌, true, List, [], map, refl, ap, sym, ◌∙◌, subst}
-use Rattle.mt_fault.specs.Items.{Item}
+use Rattle.std.proofs.Common.{ℕ, List, [], map, refl, ap, sym, ◌∙◌, subst}
 use Rattle.mt_march.specs.declared.march.Element.{Element}
 use Rattle.mt_plan.specs.declared.line.Line.{Line}
 use Rattle.mt_plan.specs.declared.line.Line.TheVariants.{EachCell, OnCell, WalkBase, GalpatBase}
 use Rattle.mt_plan.specs.declared.algorithm.Step.{Step}
 use Rattle.mt_plan.specs.Accesses.{item_of}
-use Rattle.mt_plan.specs.Cursor.{element_under, line_under, span_of, span_steps}
+use Rattle.mt_plan.specs.Cursor.{element_under, span_steps}
 use Rattle.mt_seq.specs.Inner.Ground.{IsGround, item_on}
 use Rattle.mt_seq.specs.Sequence.{back_of}
 use Rattle.mt_seq.specs.Stepping.{job_of}

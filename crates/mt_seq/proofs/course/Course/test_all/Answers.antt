@@ -1,7 +1,6 @@
-use Rattle.std.proofs.Common.{◌-◌, arith, refl, ap, sym, ◌∙◌}
-use Rattle.mt_port.specs.declared.board.Shape.{Shape}
+use Rattle.std.proofs.Common.{◌-◌, arith, refl}
 use Rattle.mt_seq.specs.Stepping.{job_of, view_of}
-use Rattle.mt_seq.proofs.Runs.{runs_none, runs_on, ready_after, same_from, same_to}
+use Rattle.mt_seq.proofs.Runs.{runs_none, runs_on, ready_after}
 use Rattle.mt_seq.proofs.course.Course.test_all.Goals as goal
 
 pub loop-frame-init : goal.loop-frame-init

@@ -1,4 +1,4 @@
-use Rattle.std.proofs.Common.{ℕ, ◌≡◌, ◌+◌, arith, ap, subst}
+use Rattle.std.proofs.Common.{ℕ, ◌+◌, arith, ap, subst}
 use Rattle.std.specs.Prelude.{not}
 use mathlib.Core.Bool.{◌||◌}
 use Rattle.mt_plan.specs.Cursor.{Continues, made_by, span_of}
