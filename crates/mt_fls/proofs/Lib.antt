@@ -3,3 +3,5 @@ pub mod Marks
 pub mod Moves
 pub mod Settings
 pub mod Walks
+pub mod Tested
+pub mod ServiceLemmas

@@ -4,7 +4,7 @@ use Rattle.mt_window.specs.Serving.{Scene, serve_due, serve_left}
 use Rattle.mt_window.specs.Slices.{slices, unstopped}
 use Rattle.mt_window.specs.Rows.{work_in}
 use Rattle.mt_window.specs.Events.{Running as Events, entered, ran, event}
-use Rattle.mt_window.specs.Waits.{ServesInTime, KeepsBoard}
+use Rattle.mt_window.specs.Waits.{ServesInTime, KeepsBoard, MakesShortAttempts}
 use Rattle.mt_blocks.specs.Slices.{Piece}
 use Rattle.mt_fls.specs.declared.state.State.{State}
 use Rattle.mt_fls.specs.declared.state.State.TheVariants as state
@@ -15,6 +15,10 @@ use Rattle.mt_fls.specs.Event.{of_pass, ticking, foreground_test}
 -- of each foreground test
 abbrev pub ForegroundTestsServeInTime : Type 0
 ForegroundTestsServeInTime = (block : ℕ) → ServesInTime (foreground_test block)
+
+-- the attempts of each foreground test
+abbrev pub ForegroundTestsMakeShortAttempts : Type 0
+ForegroundTestsMakeShortAttempts = (block : ℕ) → MakesShortAttempts (foreground_test block)
 
 -- what each foreground test leaves of the board
 abbrev pub ForegroundTestsKeepTheBoard : Type 0

@@ -3,5 +3,6 @@ pub mod Table
 pub mod Event
 pub mod Kept
 pub mod Laws
+pub mod Tested
 pub mod Example
 pub mod Walks

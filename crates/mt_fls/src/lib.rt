@@ -12,8 +12,9 @@ mod state;
 mod taken;
 
 pub use laws::{
-    handlers_leave_results, running_calls_keep_the_board, services_leave_setting,
-    ticks_end_by_the_mark, waits_of_running_calls,
+    attempts_of_running_calls, handlers_leave_results, marks_are_of_calls,
+    results_are_of_sequences, results_are_reset, running_calls_keep_the_board,
+    services_leave_setting, ticks_end_by_the_mark, waits_of_running_calls,
 };
 pub use state::{Back, Fls, State};
 

@@ -5,3 +5,5 @@ pub mod Walks
 pub mod Drops
 pub mod Marks
 pub mod Plain
+pub mod Tested
+pub mod ServiceLemmas

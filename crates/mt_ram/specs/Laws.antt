@@ -6,7 +6,7 @@ use Rattle.mt_window.specs.Serving.{Scene, serve_due, serve_left}
 use Rattle.mt_window.specs.Slices.{slices, unstopped}
 use Rattle.mt_window.specs.Rows.{work_in}
 use Rattle.mt_window.specs.Events.{Running as Events, entered, ran, event}
-use Rattle.mt_window.specs.Waits.{ServesInTime, KeepsBoard}
+use Rattle.mt_window.specs.Waits.{ServesInTime, KeepsBoard, MakesShortAttempts}
 use Rattle.mt_seq.specs.declared.sequence.Verdict.{Verdict}
 use Rattle.mt_blocks.specs.Slices.{Piece}
 use Rattle.mt_ram.specs.State.{RamTst, IsRam, set_of, IsRunning, IsInside}
@@ -16,6 +16,10 @@ use Rattle.mt_ram.specs.Event.{attempt_at, of_pass, ticking, partial_test}
 -- of each partial test
 abbrev pub PartialTestsServeInTime : Type 0
 PartialTestsServeInTime = (block : ℕ) → ServesInTime (partial_test block)
+
+-- the attempts of each partial test
+abbrev pub PartialTestsMakeShortAttempts : Type 0
+PartialTestsMakeShortAttempts = (block : ℕ) → MakesShortAttempts (partial_test block)
 
 -- what each partial test leaves of the board
 abbrev pub PartialTestsKeepTheBoard : Type 0

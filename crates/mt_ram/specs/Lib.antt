@@ -4,6 +4,7 @@ pub mod Table
 pub mod Kept
 pub mod Event
 pub mod Laws
+pub mod Tested
 pub mod Plain
 pub mod Example
 pub mod Moves

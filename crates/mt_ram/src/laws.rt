@@ -1,9 +1,10 @@
 //! Laws of RamTst.
 
 ghost use Rattle.mt_ram.specs.Event.{ticking, full_test};
-ghost use Rattle.mt_window.specs.Waits.{ServesInTime, KeepsBoard};
+ghost use Rattle.mt_window.specs.Waits.{ServesInTime, KeepsBoard, MakesShortAttempts};
 ghost use Rattle.mt_ram.specs.Plain.{LeavesNoTrace, PartialTestsLeaveNoTrace};
-ghost use Rattle.mt_ram.specs.Laws.{PartialTestsServeInTime, PartialTestsKeepTheBoard, DroppedAttemptsLeaveWords, TicksRest, TicksTest, TicksEndTheirGroup, BoundariesMove, RequestsLeftMove, ServicesLeaveSetting, LeavesSetting, PartialTestsLeaveSetting};
+ghost use Rattle.mt_ram.specs.Laws.{PartialTestsServeInTime, PartialTestsMakeShortAttempts, PartialTestsKeepTheBoard, DroppedAttemptsLeaveWords, TicksRest, TicksTest, TicksEndTheirGroup, BoundariesMove, RequestsLeftMove, ServicesLeaveSetting, LeavesSetting, PartialTestsLeaveSetting};
+ghost use Rattle.mt_ram.specs.Tested.{ResultsAreOfTests, FailuresAreKept, OtherBlocksStay, OverallIsOfAll, ResultsAreReset, InitForgets, MarksAreOfCalls};
 ghost use Rattle.mt_ram.specs.Inner.Sets.{SetsAreCut, SlicesAreSound};
 
 use crate::pass_walk::PassWalk;
@@ -11,7 +12,7 @@ use crate::state::Ram;
 use crate::test_walk::TestWalk;
 use mt_blocks::passes_go_on;
 use mt_seq::{attempts_are_counted, attempts_on_sound_memory, urgent_requests_wait_shortly};
-use mt_window::{requests_are_served, waits_are_short};
+use mt_window::{attempts_are_within, requests_are_served, waits_are_short};
 
 /// Each request of a running event is served where its offset says, and waits 0 or less than the length of the attempt
 /// that it meets. An urgent one that meets an attempt which might be dropped waits at most the words of the slice.
@@ -25,6 +26,17 @@ pub fn waits_of_running_calls()
     waits_are_short::<Ram, PassWalk>();
     requests_are_served::<Ram, TestWalk>();
     waits_are_short::<Ram, TestWalk>();
+}
+
+/// No attempt of a running call has more accesses than the sequence of its slice.
+pub fn attempts_of_running_calls()
+    ensures tick { MakesShortAttempts ticking }
+    ensures full { MakesShortAttempts full_test }
+    ensures partial { PartialTestsMakeShortAttempts }
+{
+    attempts_are_counted();
+    attempts_are_within::<Ram, PassWalk>();
+    attempts_are_within::<Ram, TestWalk>();
 }
 
 /// Running calls leave the board's shape, fault, flash words and defect, and whether interrupts are held.
@@ -81,6 +93,26 @@ pub fn running_calls_leave_setting()
     ensures tick { LeavesSetting ticking }
     ensures full { LeavesSetting full_test }
     ensures partial { PartialTestsLeaveSetting }
+{}
+
+/// A block is OK where the latest slice that decides ended a test all of whose slices passed, and NOT_OK where its test failed;
+/// the overall result is that of all blocks.
+pub fn results_are_of_tests()
+    ensures blocks { ResultsAreOfTests }
+    ensures failures { FailuresAreKept }
+    ensures others { OtherBlocksStay }
+    ensures overall { OverallIsOfAll }
+{}
+
+/// Init and SelectAlgParams alone reset the results, and Init forgets all that was.
+pub fn results_are_reset()
+    ensures reset { ResultsAreReset }
+    ensures init { InitForgets }
+{}
+
+/// The mark is set exactly by an accepted Stop or Suspend of a handler.
+pub fn marks_are_of_calls()
+    ensures { MarksAreOfCalls }
 {}
 
 /// An accepted set is cut into slices, each of which is a part of the RAM that its job tests soundly.
