@@ -9,5 +9,11 @@ pub mod Culprits
 pub mod Suspicion
 pub mod LineWords
 pub mod Members
-pub mod Once
+pub mod Ordered
+pub mod Rows
 pub mod Seen
+pub mod TwoBits
+pub mod BitsDecide
+pub mod Unmissed
+pub mod Classes
+pub mod LaneBits
