@@ -28,7 +28,8 @@ use Rattle.mt_locate.specs.declared.probe.Miss.{Miss}
 use Rattle.mt_locate.specs.Misses.{answer_at, misses_of, wrong_answer}
 use Rattle.mt_locate.specs.Explanations.{accesses_of, misses_under}
 use Rattle.mt_locate.specs.Suspects.{FirstMissTellsWhatIsSeen}
-use Rattle.mt_locate.proofs.Spans.{miss, misses_from, Answered, length-accesses, access_at, place_of}
+use Rattle.mt_locate.proofs.MissLists.{miss, misses_from}
+use Rattle.mt_locate.proofs.Spans.{Answered, length-accesses, access_at, place_of}
 use Rattle.mt_locate.proofs.Sound.{may_go_wrong, word_for, item_at, found, sound_answer}
 use Rattle.mt_locate.proofs.CellReads.{each_is_read, has_at}
 

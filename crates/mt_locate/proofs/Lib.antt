@@ -1,5 +1,7 @@
+pub mod MissLists
 pub mod Spans
 pub mod Resets
+pub mod MovedFaults
 pub mod Raised
 pub mod Listing
 pub mod CellReads
@@ -9,6 +11,7 @@ pub mod Culprits
 pub mod Suspicion
 pub mod LineWords
 pub mod Members
+pub mod Rising
 pub mod Ordered
 pub mod Rows
 pub mod Seen

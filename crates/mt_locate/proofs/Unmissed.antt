@@ -30,7 +30,8 @@ use Rattle.mt_locate.specs.Misses.{misses_of}
 use Rattle.mt_locate.specs.Explanations.{accesses_of}
 use Rattle.mt_locate.specs.Listed.{explains, same_miss}
 use Rattle.mt_locate.specs.Lanes.{begun, fault_by, BitsDecide}
-use Rattle.mt_locate.proofs.Spans.{misses_from, history_of, length-accesses}
+use Rattle.mt_locate.proofs.MissLists.{misses_from}
+use Rattle.mt_locate.proofs.Spans.{history_of, length-accesses}
 use Rattle.mt_locate.proofs.Sound.{item_at}
 use Rattle.mt_locate.proofs.Culprits.{step_of, past, item_is, expected}
 use Rattle.mt_locate.proofs.TwoBits.{vic_now, rule}

@@ -33,4 +33,6 @@ pub use slice_line::read_slice;
 pub use stand_in::scratch;
 
 #[cfg(test)]
+mod line_tests;
+#[cfg(test)]
 mod tests;

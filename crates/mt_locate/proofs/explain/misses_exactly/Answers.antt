@@ -10,7 +10,8 @@ use Rattle.mt_plan.specs.Cursor.{cells_of, made_by}
 use Rattle.mt_plan.specs.Plan.{steps_of}
 use Rattle.mt_locate.specs.Explanations.{accesses_of}
 use Rattle.mt_locate.proofs.Culprits.{step_answered}
-use Rattle.mt_locate.proofs.Spans.{Met, Met-none, Met-more, Met-differs, Met-all, Answered, Moves, counted, no_difference, difference, length-accesses, place_of}
+use Rattle.mt_locate.proofs.MissLists.{counted}
+use Rattle.mt_locate.proofs.Spans.{Met, Met-none, Met-more, Met-differs, Met-all, Answered, Moves, no_difference, difference, length-accesses, place_of}
 use Rattle.mt_locate.proofs.explain.misses_exactly.Goals as goal
 use Rattle.mt_locate.proofs.explain.misses_exactly.Goals.{then-is_some, else-is_some}
 
