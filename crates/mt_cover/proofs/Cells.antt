@@ -7,7 +7,7 @@ use Rattle.std.proofs.lemmas.Bool.{eq-eqb, ne_eqb, cases_eq}
 use Rattle.mt_march.specs.declared.march.Element.{Element}
 use Rattle.mt_plan.specs.Lists.{cells, march_on}
 use Rattle.mt_plan.specs.Kept.{Names}
-use Rattle.mt_cover.proofs.Model.{part, project}
+use Rattle.mt_decoder.specs.BitModel.{part, project}
 use Rattle.mt_cover.proofs.Below.{Laws}
 
 pub at_v : (a v n : ℕ) → n ≡ v → part a v n ≡ 1 ∷ []

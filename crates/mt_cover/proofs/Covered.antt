@@ -11,7 +11,7 @@ use Rattle.mt_fault.specs.Placement.{IsWithin}
 use Rattle.mt_plan.specs.declared.algorithm.Step.{Step}
 use Rattle.mt_plan.specs.Lists.{cells}
 use Rattle.mt_cover.specs.Coverage.{Catches, HasOneWord}
-use Rattle.mt_cover.proofs.Model.{Rule, part, project, IsCaughtOn, IsModel}
+use Rattle.mt_decoder.specs.BitModel.{Rule, part, project, IsCaughtOn, IsModel}
 use Rattle.mt_cover.proofs.Below.{Laws, HasSpots}
 use Rattle.mt_cover.proofs.Link.{on_all_cells}
 use Rattle.mt_cover.proofs.Cells.{one_cell, rising, falling}

@@ -5,7 +5,7 @@ use Rattle.std.proofs.lemmas.Bool.{and_parts}
 use Rattle.mt_march.specs.Known.{march_c_minus, mats_plus}
 use Rattle.mt_plan.specs.declared.algorithm.Step.{Step}
 use Rattle.mt_plan.specs.Lists.{march_on, walk_on, galpat_on}
-use Rattle.mt_cover.proofs.Model.{Rule, stuck, no_rise, no_fall, inverts, forces, holds, shared, doubled, caught, IsCaughtOn}
+use Rattle.mt_decoder.specs.BitModel.{Rule, stuck, no_rise, no_fall, inverts, forces, holds, shared, doubled, caught, IsCaughtOn}
 
 abbrev pub both : (Bool → Bool) → Bool
 both f = f false && f true

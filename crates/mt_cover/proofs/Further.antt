@@ -18,7 +18,7 @@ use Rattle.mt_plan.specs.Plan.{steps_of}
 use Rattle.mt_cover.specs.Coverage.{class_of}
 use Rattle.mt_cover.specs.Further.{settled, RunsAs, IsMatsTabled, kept_at, FurtherCoverage, MatsCatchesOneDirection}
 use Rattle.mt_cover.proofs.Below.{Laws}
-use Rattle.mt_cover.proofs.Model.{stuck, no_rise, no_fall, shared, doubled}
+use Rattle.mt_decoder.specs.BitModel.{stuck, no_rise, no_fall, shared, doubled}
 use Rattle.mt_cover.proofs.Models.{spot}
 use Rattle.mt_cover.proofs.Finite.{always_at, caught_at, walk-holds, galpat-holds, mats, mats-stuck, mats-rise, mats-fall, mats-moved, mats-wired}
 use Rattle.mt_cover.proofs.Covered.{Slice, IsCaught, covered_one, covered_on_bit, covered_alike}

@@ -1,4 +1,3 @@
-pub mod Model
 pub mod Below
 pub mod Models
 pub mod Link

@@ -21,7 +21,7 @@ use Rattle.mt_plan.specs.declared.algorithm.Step.{Step}
 use Rattle.mt_plan.specs.Lists.{step}
 use Rattle.mt_plan.specs.Accesses.{item_of}
 use Rattle.mt_fault.specs.Projection.{names, own}
-use Rattle.mt_cover.proofs.Model.{Rule, vic_own, agg_own, vic_other, shows, caught, project, IsModel, IsCaughtOn}
+use Rattle.mt_decoder.specs.BitModel.{Rule, vic_own, agg_own, vic_other, shows, caught, project, IsModel, IsCaughtOn}
 use Rattle.mt_cover.proofs.Below.{Laws, HasSpots}
 
 not_one : (t : ℕ) → t < 2 → ((1 - t) == 1) ≡ not (t == 1)

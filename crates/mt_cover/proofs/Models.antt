@@ -11,7 +11,7 @@ use Rattle.mt_fault.specs.declared.fault.Fault.TheVariants.{StuckAt, CannotRise,
 use Rattle.mt_fault.specs.History.{History, Read, Write, plain}
 use Rattle.mt_fault.specs.Faulty.{same, asked, was_held, with_victim, moved, cells_of, rerouted, stored_under, answer_under}
 use Rattle.mt_fault.specs.Rules.{vic_of}
-use Rattle.mt_cover.proofs.Model.{stuck, no_rise, no_fall, inverts, forces, holds, shared, doubled, shows, IsModel}
+use Rattle.mt_decoder.specs.BitModel.{stuck, no_rise, no_fall, inverts, forces, holds, shared, doubled, shows, IsModel}
 use Rattle.mt_cover.proofs.Below.{Laws}
 
 at : (a b : ℕ) → b ≡ a → eqb a b ≡ true

@@ -7,7 +7,7 @@ use Rattle.mt_fault.specs.declared.fault.Fault.TheVariants.{StuckAt, CannotRise,
 use Rattle.mt_fault.specs.declared.fault.Spot.{Spot}
 use Rattle.mt_fault.specs.Faulty.{asked}
 use Rattle.mt_fault.specs.Placement.{IsWellPlaced, IsInside, IsWithin, IsSpot}
-use Rattle.mt_cover.proofs.Model.{stuck, no_rise, no_fall, inverts, forces, holds, shared, doubled}
+use Rattle.mt_decoder.specs.BitModel.{stuck, no_rise, no_fall, inverts, forces, holds, shared, doubled}
 use Rattle.mt_cover.proofs.Below.{Laws, stuck_spots, rise_spots, fall_spots, none_spots, invert_spots, force_spots, state_spots, also_spots, instead_spots}
 use Rattle.mt_cover.proofs.Models.{none, spot, bit_after, stored_bit, stuck_model, rise_model, fall_model, none_model, invert_model, force_model, state_model, also_model, instead_model}
 use Rattle.mt_cover.proofs.Covered.{Slice, IsBit, IsRuled}

@@ -14,7 +14,7 @@ use Rattle.mt_march.specs.declared.march.Element.{Element}
 use Rattle.mt_march.specs.Accepted.{operations, writes, is_one, reads}
 use Rattle.mt_plan.specs.declared.algorithm.Step.{Step}
 use Rattle.mt_plan.specs.Lists.{act_of, is_write, step, ops_on, in_order, march_on}
-use Rattle.mt_cover.proofs.Model.{stuck, flipped_if, wanted, agg_after, vic_after, misses, caught}
+use Rattle.mt_decoder.specs.BitModel.{stuck, flipped_if, wanted, agg_after, vic_after, misses, caught}
 
 -- a read of the victim that wants another bit than b
 abbrev shows_other : Bool → Bool → Bool → Step → Bool

@@ -21,7 +21,7 @@ use Rattle.mt_plan.specs.Lists.{cells, step, write_act, read_act, march_on, walk
 use Rattle.mt_plan.specs.Plan.{steps_of}
 use Rattle.mt_cover.specs.declared.class.Class.TheVariants as classes
 use Rattle.mt_cover.specs.Coverage.{class_of, IsWalkTabled, HasOneWord, Coverage}
-use Rattle.mt_cover.proofs.Model.{stuck, no_rise, no_fall, inverts, forces, holds, shared, doubled, part, project, IsCaughtOn}
+use Rattle.mt_decoder.specs.BitModel.{stuck, no_rise, no_fall, inverts, forces, holds, shared, doubled, part, project, IsCaughtOn}
 use Rattle.mt_cover.proofs.Below.{Laws}
 use Rattle.mt_cover.proofs.Models.{spot}
 use Rattle.mt_cover.proofs.Cells.{one_cell, off, project-march}

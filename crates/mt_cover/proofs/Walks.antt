@@ -8,7 +8,7 @@ use Rattle.std.proofs.lemmas.List.Concat.{flat_map-append}
 use Rattle.mt_plan.specs.declared.algorithm.Act.{Act}
 use Rattle.mt_plan.specs.declared.algorithm.Step.{Step}
 use Rattle.mt_plan.specs.Lists.{is_write, step, others, read_act, write_act, walk_base, walk_round, walk_on, galpat_base, galpat_round, galpat_on}
-use Rattle.mt_cover.proofs.Model.{Rule, caught, agg_after, vic_after, part, project}
+use Rattle.mt_decoder.specs.BitModel.{Rule, caught, agg_after, vic_after, part, project}
 use Rattle.mt_cover.proofs.Cells.{part_cases, at_v, at_a, off}
 
 -- the second list is the first with more reads

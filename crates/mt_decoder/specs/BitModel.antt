@@ -1,6 +1,5 @@
 -- A fault by the bits at its two spots: cell 1 is the victim's, and cell 0 the aggressor's.
-use Rattle.std.proofs.Common.{ℕ, ◌≡◌, ◌≢◌, Bool, true, false, List, [], ◌∷◌, Some}
-use Rattle.std.specs.Prelude.{◌==◌, ◌&&◌, ◌||◌, not, if◌then◌else◌}
+use Rattle.std.specs.Prelude.{ℕ, ◌≡◌, ◌≢◌, Bool, true, false, List, [], ◌∷◌, Some, ◌==◌, ◌&&◌, ◌||◌, not, if◌then◌else◌}
 use mathlib.Core.Bool.{beq}
 use Rattle.mt_word.specs.Word.{has_bit}
 use Rattle.mt_fault.specs.declared.fault.Spot.{Spot}

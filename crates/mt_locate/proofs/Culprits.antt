@@ -1,19 +1,20 @@
 -- The first miss is one of a read that the fault may disturb.
-use Rattle.std.proofs.Common.{◌≡◌, ℕ, zero, suc, ◌+◌, ◌-◌, ◌<◌, ◌≤◌, eqb, Bool, true, false, not, List, [], ◌∷◌, ◌++◌, map, reverse, take, length, get_or, replicate, Option, Some, None, refl, sym, ap, ◌∙◌, arith, inl, inr, append-nil}
+use Rattle.std.proofs.Common.{◌≡◌, ℕ, zero, suc, ◌+◌, ◌-◌, ◌<◌, ◌≤◌, ◌==◌, eqb, Bool, true, false, not, ◌||◌, List, [], ◌∷◌, ◌++◌, map, reverse, take, length, get_or, replicate, Option, Some, None, refl, sym, ap, ◌∙◌, arith, inl, inr, append-nil}
 use Rattle.std.specs.Prelude.{◌≢◌, if◌then◌else◌, slice_get, IsSomeAnd}
 use Rattle.std.specs.Bool.{then_some}
 use Rattle.std.specs.List.{cons_option}
 use Rattle.std.proofs.lemmas.Bool.{eq-eqb, ne_eqb, cases_eq}
-use Rattle.std.proofs.lemmas.Option.{slice_get-get_or}
+use Rattle.std.proofs.lemmas.Option.{slice_get-get_or, get_or_from_slice_get}
 use Rattle.mt_word.specs.declared.Width.{Width}
 use Rattle.mt_word.specs.declared.Width.TheVariants.{W8, W16, W32, W64}
 use Rattle.mt_word.specs.Word.{Fits, complement_of}
 use Rattle.mt_fault.specs.declared.fault.Fault.{Fault}
-use Rattle.mt_fault.specs.declared.fault.Fault.TheVariants.{NoCell}
+use Rattle.mt_fault.specs.declared.fault.Fault.TheVariants.{StuckAt, CannotRise, CannotFall, Invert, Force, State, NoCell, Also, Instead}
 use Rattle.mt_fault.specs.History.{History, plain}
 use Rattle.mt_fault.specs.Faulty.{answer, answer_under, stored_under}
 use Rattle.mt_fault.specs.Items.{Item, Look, place, access_of, history, agrees}
-use Rattle.mt_fault.specs.Memory.{first_words}
+use Rattle.mt_fault.specs.Memory.{Memory, first_words}
+use Rattle.mt_fault.specs.Projection.{names}
 use Rattle.mt_plan.specs.declared.algorithm.Act.{Act}
 use Rattle.mt_plan.specs.declared.algorithm.Act.TheVariants.{WritePlain, WriteFlipped, ReadPlain, ReadFlipped}
 use Rattle.mt_plan.specs.declared.algorithm.Step.{Step}
@@ -24,10 +25,11 @@ use Rattle.mt_plan.specs.Steady.{PlansAreSteady}
 use Rattle.mt_decoder.specs.Misses.{accesses, is_miss}
 use Rattle.mt_locate.specs.declared.probe.Probe.{Probe}
 use Rattle.mt_locate.specs.declared.probe.Miss.{Miss}
-use Rattle.mt_locate.specs.Misses.{answer_at, misses_of}
+use Rattle.mt_locate.specs.Misses.{answer_at, misses_of, wrong_answer}
 use Rattle.mt_locate.specs.Explanations.{accesses_of, misses_under}
 use Rattle.mt_locate.specs.Suspects.{FirstMissTellsWhatIsSeen}
-use Rattle.mt_locate.proofs.Spans.{miss, misses_from, length-accesses, access_at, place_of}
+use Rattle.mt_locate.proofs.MissLists.{miss, misses_from}
+use Rattle.mt_locate.proofs.Spans.{Answered, length-accesses, access_at, place_of}
 use Rattle.mt_locate.proofs.Sound.{may_go_wrong, word_for, item_at, found, sound_answer}
 use Rattle.mt_locate.proofs.CellReads.{each_is_read, has_at}
 
@@ -68,7 +70,7 @@ expected steady probe words i accepted l reads =
     ∙ found probe.width probe.background ((step_of probe i).cell) words (steps_of probe.alg probe.n) None [] i (is_flipped ((step_of probe i).act))
     ((steady probe.alg probe.n accepted).steady ((step_of probe i).cell)) tt l refl reads refl
 
-agrees_well : (width : Width) (back : ℕ) (fault : Fault) (words : List ℕ) (h : History) (cell : ℕ) (act : Act) → may_go_wrong fault cell ≡ false
+pub agrees_well : (width : Width) (back : ℕ) (fault : Fault) (words : List ℕ) (h : History) (cell : ℕ) (act : Act) → may_go_wrong fault cell ≡ false
     → (is_write act ≡ false → plain words h cell ≡ word_for width back (is_flipped act)) → agrees (Some fault) words h (act_on width cell back act) ≡ true
 agrees_well width back fault words h cell WritePlain e k = refl
 agrees_well width back fault words h cell WriteFlipped e k = refl
@@ -205,3 +207,39 @@ first_miss_tells steady probe misses addr seen accepted inside explains = of mis
         ∙ ap (λ (x : Item). answer (Some (NoCell cell seen)) words (past probe m.index) (place x)) (item_is probe m.index l)
         ∙ ap (answer (Some (NoCell cell seen)) words (past probe m.index)) (place_of probe.width ((step_of probe m.index).cell) probe.background ((step_of probe m.index).act))
         ∙ seen_answer cell seen ((step_of probe m.index).cell) words (past probe m.index) (culprit m first l (eqb ((step_of probe m.index).cell) cell) refl)
+
+-- ---- the words of a fault
+
+or_both : (a b : Bool) → (a || b) ≡ false → (a ≡ false) × (b ≡ false)
+or_both true b e = absurd (cc)
+or_both false b e = (refl, e)
+
+-- a read of a word that the fault does not name cannot go wrong
+unnamed : (fault : Fault) (cell : ℕ) → names fault cell ≡ false → may_go_wrong fault cell ≡ false
+unnamed (StuckAt vic value) cell e = (or_both _ _ e).0
+unnamed (CannotRise vic) cell e = (or_both _ _ e).0
+unnamed (CannotFall vic) cell e = (or_both _ _ e).0
+unnamed (Invert agg rise vic) cell e = (or_both _ _ (or_both _ _ e).1).0
+unnamed (Force agg rise vic value) cell e = (or_both _ _ (or_both _ _ e).1).0
+unnamed (State agg holds vic value) cell e = (or_both _ _ (or_both _ _ e).1).0
+unnamed (NoCell addr seen) cell e = (or_both _ _ e).0
+unnamed (Also addr other wired_and) cell e = let both = or_both _ _ e in ap (λ (t : Bool). t || (cell == other)) both.0 ∙ (or_both _ _ both.1).0
+unnamed (Instead addr other) cell e = let both = or_both _ _ e in ap (λ (t : Bool). t || (cell == other)) both.0 ∙ (or_both _ _ both.1).0
+
+-- a step, as an access of a memory under a fault
+pub step_answered : PlansAreSteady → (probe : Probe) (m : Memory) (f : Fault) (i : ℕ) (t : Step) {now : Memory} {wrong : Option ℕ}
+    → IsAccepted probe.alg → length m.words ≡ probe.n → i < length (steps_of probe.alg probe.n) → slice_get (steps_of probe.alg probe.n) i ≡ Some t → t.cell < probe.n
+    → (names f t.cell ≡ true → wrong ≡ wrong_answer now (act_on probe.width t.cell probe.background t.act)) → (names f t.cell ≡ false → wrong ≡ None)
+    → Answered m f (accesses_of probe) i now (act_on probe.width t.cell probe.background t.act) wrong
+step_answered steady probe m f i t {now} {wrong} accepted size within at inside own other =
+    let item : Item = act_on probe.width t.cell probe.background t.act in
+    let addr : place item ≡ t.cell = place_of probe.width t.cell probe.background t.act in
+    let step_is : step_of probe i ≡ t = get_or_from_slice_get (steps_of probe.alg probe.n) i t none at in
+    record {
+      within = omega (arith, within, length-accesses probe);
+      here = access_at probe i t at;
+      inside = omega (arith, addr, size, inside);
+      own = λ e. own (ap (names f) (sym addr) ∙ e);
+      other = λ e. other (ap (names f) (sym addr) ∙ e);
+      spared = λ e. no_miss steady probe f m.words i accepted within (ap (λ (s : Step). may_go_wrong f s.cell) step_is ∙ unnamed f t.cell (ap (names f) (sym addr) ∙ e));
+    }

@@ -1,5 +1,7 @@
+pub mod MissLists
 pub mod Spans
 pub mod Resets
+pub mod MovedFaults
 pub mod Raised
 pub mod Listing
 pub mod CellReads
@@ -9,5 +11,12 @@ pub mod Culprits
 pub mod Suspicion
 pub mod LineWords
 pub mod Members
-pub mod Once
+pub mod Rising
+pub mod Ordered
+pub mod Rows
 pub mod Seen
+pub mod TwoBits
+pub mod BitsDecide
+pub mod Unmissed
+pub mod Classes
+pub mod LaneBits

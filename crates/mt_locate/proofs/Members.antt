@@ -17,9 +17,11 @@ use Rattle.mt_locate.specs.declared.kinds.Coupling.{Coupling}
 use Rattle.mt_locate.specs.declared.kinds.Coupling.TheVariants.{Invert, Force, State}
 use Rattle.mt_locate.specs.declared.kinds.OfCells.{OfCells}
 use Rattle.mt_locate.specs.declared.kinds.OfCells.TheVariants.{Also, Instead}
+use Rattle.mt_locate.specs.declared.kinds.Kind.{Kind}
+use Rattle.mt_locate.specs.declared.kinds.Kind.TheVariants as kind
 use Rattle.mt_locate.specs.Moved.{IsFaultOfSlice}
-use Rattle.mt_locate.specs.Listed.{spot_at, spots, on_bit, on_bits, coupled, on_cells, crossed, all_on_bit, all_coupled, all_seen, all_crossed, bit_kinds, coupling_kinds, cell_kinds, faults_of, FaultsOfTheSliceAreListed}
-use Rattle.mt_locate.proofs.CellReads.{Has, has_left, has_right, has_map, has_flat_map, has_at}
+use Rattle.mt_locate.specs.Listed.{spot_at, spots, on_bit, on_bits, coupled, on_cells, crossed, all_seen, kinds, of_kind, faults_of, FaultsOfTheSliceAreListed}
+use Rattle.mt_locate.proofs.CellReads.{Has, has_map, has_flat_map, has_at}
 
 -- ---- elements of lists
 
@@ -182,123 +184,91 @@ has_word first n a w = has_range first n a w.from w.below
 
 -- ---- the whole list
 
-abbrev pub one : Width → ℕ → ℕ → List Fault
-one width first n = flat_map (all_on_bit width first n) bit_kinds
+-- what stands in the list of one kind is a fault of the slice
+of_one : (width : Width) (first n : ℕ) (k : Kind) (f : Fault) → Has (of_kind width first n k) f → IsFaultOfSlice width first n f
+unfolding of_kind
+of_one width first n (kind.OfBit k) f h =
+    let v = of_flat_map (on_bit k) (spots width first n) f h in
+    of_bit width first n k v.0 f (of_spots width first n v.0 v.1) v.2
+of_one width first n (kind.Coupling k) f h =
+    let a = of_flat_map (λ agg. flat_map (coupled k agg) (spots width first n)) (spots width first n) f h in
+    let v = of_flat_map (coupled k a.0) (spots width first n) f a.2 in
+    of_coupled width first n k a.0 v.0 f (of_spots width first n a.0 a.1) (of_spots width first n v.0 v.1) v.2
+of_one width first n kind.NoCell f h =
+    let a = of_flat_map (all_seen width) (range_with_len first n) f h in
+    let x = of_map (fault.NoCell a.0) (range_with_len 0 (2 ^ width_bits width)) f a.2 in
+    let w = within first n a.0 a.1 in
+    let l = (of_range 0 (2 ^ width_bits width) x.0 x.1).1 in
+    let fits : x.0 < 2 ^ width_bits width = omega (arith, l) in
+    subst (IsFaultOfSlice width first n) x.2 (record { placed = record { inside = ((w.below, tt), ((fits, tt), tt)); apart = tt }; inside = (w, tt) })
+of_one width first n (kind.OfCells k) f h =
+    let a = of_flat_map (λ addr. flat_map (crossed k addr) (range_with_len first n)) (range_with_len first n) f h in
+    let o = of_flat_map (crossed k a.0) (range_with_len first n) f a.2 in
+    of_crossed width first n k a.0 o.0 f (within first n a.0 a.1) (within first n o.0 o.1) o.2
 
-abbrev pub two : Width → ℕ → ℕ → List Fault
-two width first n = flat_map (all_coupled width first n) coupling_kinds
+abbrev whole : Width → ℕ → ℕ → List Fault
+whole width first n = flat_map (of_kind width first n) kinds
 
-abbrev pub three : Width → ℕ → ℕ → List Fault
-three width first n = flat_map (all_seen width) (range_with_len first n)
+-- the kind with a number among the kinds
+listed : (width : Width) (first n i : ℕ) (k : Kind) (f : Fault) → i < 12 → get_or kinds i k ≡ k → Has (of_kind width first n k) f → Has (whole width first n) f
+listed width first n i k f l at h = has_flat_map (of_kind width first n) kinds k f (has_from kinds k i l at) h
 
-abbrev pub four : Width → ℕ → ℕ → List Fault
-four width first n = flat_map (all_crossed first n) cell_kinds
+in_bit : (width : Width) (first n i : ℕ) (k : OfBit) (vic : Spot) (f : Fault) → i < 12 → get_or kinds i (kind.OfBit k) ≡ kind.OfBit k → IsSpotAmong width first n vic → Has (on_bit k vic) f → Has (whole width first n) f
+unfolding of_kind
+in_bit width first n i k vic f l at v h = listed width first n i (kind.OfBit k) f l at (has_flat_map (on_bit k) (spots width first n) vic f (has_spot width first n vic v) h)
 
-sound : (width : Width) (first n : ℕ) (f : Fault) → Has (one width first n ++ two width first n ++ three width first n ++ four width first n) f → IsFaultOfSlice width first n f
-sound width first n f h = elim (split (one width first n ++ two width first n ++ three width first n) (four width first n) f h) [
-  | inr d ↦
-      let k = of_flat_map (all_crossed first n) cell_kinds f d in
-      let a = of_flat_map (λ addr. flat_map (crossed k.0 addr) (range_with_len first n)) (range_with_len first n) f k.2 in
-      let o = of_flat_map (crossed k.0 a.0) (range_with_len first n) f a.2 in
-      of_crossed width first n k.0 a.0 o.0 f (within first n a.0 a.1) (within first n o.0 o.1) o.2
-  | inl abc ↦ elim (split (one width first n ++ two width first n) (three width first n) f abc) [
-    | inr c ↦
-        let a = of_flat_map (all_seen width) (range_with_len first n) f c in
-        let x = of_map (fault.NoCell a.0) (range_with_len 0 (2 ^ width_bits width)) f a.2 in
-        let w = within first n a.0 a.1 in
-        let l = (of_range 0 (2 ^ width_bits width) x.0 x.1).1 in
-        let fits : x.0 < 2 ^ width_bits width = omega (arith, l) in
-        subst (IsFaultOfSlice width first n) x.2 (record { placed = record { inside = ((w.below, tt), ((fits, tt), tt)); apart = tt }; inside = (w, tt) })
-    | inl ab ↦ elim (split (one width first n) (two width first n) f ab) [
-      | inl a ↦
-          let k = of_flat_map (all_on_bit width first n) bit_kinds f a in
-          let v = of_flat_map (on_bit k.0) (spots width first n) f k.2 in
-          of_bit width first n k.0 v.0 f (of_spots width first n v.0 v.1) v.2
-      | inr b ↦
-          let k = of_flat_map (all_coupled width first n) coupling_kinds f b in
-          let a = of_flat_map (λ agg. flat_map (coupled k.0 agg) (spots width first n)) (spots width first n) f k.2 in
-          let v = of_flat_map (coupled k.0 a.0) (spots width first n) f a.2 in
-          of_coupled width first n k.0 a.0 v.0 f (of_spots width first n a.0 a.1) (of_spots width first n v.0 v.1) v.2
-    ]
-  ]
-]
+in_coupling : (width : Width) (first n i : ℕ) (k : Coupling) (agg vic : Spot) (f : Fault) → i < 12 → get_or kinds i (kind.Coupling k) ≡ kind.Coupling k
+    → IsSpotAmong width first n agg → IsSpotAmong width first n vic → agg.word ≢ vic.word → Has (on_bits k agg vic) f → Has (whole width first n) f
+unfolding of_kind
+in_coupling width first n i k agg vic f l at a v apart h =
+    listed width first n i (kind.Coupling k) f l at
+    (has_flat_map (λ s. flat_map (coupled k s) (spots width first n)) (spots width first n) agg f (has_spot width first n agg a)
+    (has_flat_map (coupled k agg) (spots width first n) vic f (has_spot width first n vic v) (has_coupled k agg vic f apart h)))
 
-in_one : (width : Width) (first n : ℕ) (f : Fault) → Has (one width first n) f → Has (one width first n ++ two width first n ++ three width first n ++ four width first n) f
-in_one width first n f h = has_left (one width first n ++ two width first n ++ three width first n) (four width first n) f (has_left (one width first n ++ two width first n) (three width first n) f (has_left (one width first n) (two width first n) f h))
+in_crossing : (width : Width) (first n i : ℕ) (k : OfCells) (addr other : ℕ) (f : Fault) → i < 12 → get_or kinds i (kind.OfCells k) ≡ kind.OfCells k
+    → IsWithin first n addr → IsWithin first n other → addr ≢ other → Has (on_cells k addr other) f → Has (whole width first n) f
+unfolding of_kind
+in_crossing width first n i k addr other f l at a o apart h =
+    listed width first n i (kind.OfCells k) f l at
+    (has_flat_map (λ x. flat_map (crossed k x) (range_with_len first n)) (range_with_len first n) addr f (has_word first n addr a)
+    (has_flat_map (crossed k addr) (range_with_len first n) other f (has_word first n other o) (has_crossed k addr other f apart h)))
 
-in_two : (width : Width) (first n : ℕ) (f : Fault) → Has (two width first n) f → Has (one width first n ++ two width first n ++ three width first n ++ four width first n) f
-in_two width first n f h = has_left (one width first n ++ two width first n ++ three width first n) (four width first n) f (has_left (one width first n ++ two width first n) (three width first n) f (has_right (one width first n) (two width first n) f h))
-
-in_three : (width : Width) (first n : ℕ) (f : Fault) → Has (three width first n) f → Has (one width first n ++ two width first n ++ three width first n ++ four width first n) f
-in_three width first n f h = has_left (one width first n ++ two width first n ++ three width first n) (four width first n) f (has_right (one width first n ++ two width first n) (three width first n) f h)
-
-of_kind : (width : Width) (first n : ℕ) (kind : OfBit) (vic : Spot) (f : Fault) → Has bit_kinds kind → IsSpotAmong width first n vic → Has (on_bit kind vic) f
-    → Has (one width first n ++ two width first n ++ three width first n ++ four width first n) f
-of_kind width first n kind vic f k v h =
-    in_one width first n f (has_flat_map (all_on_bit width first n) bit_kinds kind f k (has_flat_map (on_bit kind) (spots width first n) vic f (has_spot width first n vic v) h))
-
-of_coupling : (width : Width) (first n : ℕ) (kind : Coupling) (agg vic : Spot) (f : Fault) → Has coupling_kinds kind → IsSpotAmong width first n agg → IsSpotAmong width first n vic → agg.word ≢ vic.word
-    → Has (on_bits kind agg vic) f → Has (one width first n ++ two width first n ++ three width first n ++ four width first n) f
-of_coupling width first n kind agg vic f k a v apart h =
-    in_two width first n f (has_flat_map (all_coupled width first n) coupling_kinds kind f k
-    (has_flat_map (λ s. flat_map (coupled kind s) (spots width first n)) (spots width first n) agg f (has_spot width first n agg a)
-    (has_flat_map (coupled kind agg) (spots width first n) vic f (has_spot width first n vic v) (has_coupled kind agg vic f apart h))))
-
-of_crossing : (width : Width) (first n : ℕ) (kind : OfCells) (addr other : ℕ) (f : Fault) → Has cell_kinds kind → IsWithin first n addr → IsWithin first n other → addr ≢ other
-    → Has (on_cells kind addr other) f → Has (one width first n ++ two width first n ++ three width first n ++ four width first n) f
-of_crossing width first n kind addr other f k a o apart h =
-    has_right (one width first n ++ two width first n ++ three width first n) (four width first n) f
-    (has_flat_map (all_crossed first n) cell_kinds kind f k
-    (has_flat_map (λ x. flat_map (crossed kind x) (range_with_len first n)) (range_with_len first n) addr f (has_word first n addr a)
-    (has_flat_map (crossed kind addr) (range_with_len first n) other f (has_word first n other o) (has_crossed kind addr other f apart h))))
-
-invert_kind : (rise : Bool) → Has coupling_kinds (Invert rise)
-invert_kind true = inl refl
-invert_kind false = inr (inl refl)
-
-force_kind : (rise : Bool) → Has coupling_kinds (Force rise)
-force_kind true = inr (inr (inl refl))
-force_kind false = inr (inr (inr (inl refl)))
-
-state_kind : (holds : Bool) → Has coupling_kinds (State holds)
-state_kind false = inr (inr (inr (inr (inl refl))))
-state_kind true = inr (inr (inr (inr (inr (inl refl)))))
-
-forces : (agg : Spot) (rise : Bool) (vic : Spot) (value : Bool) → Has (on_bits (Force rise) agg vic) (fault.Force agg rise vic value)
-forces agg rise vic false = inl refl
-forces agg rise vic true = inr (inl refl)
-
-states : (agg : Spot) (holds : Bool) (vic : Spot) (value : Bool) → Has (on_bits (State holds) agg vic) (fault.State agg holds vic value)
-states agg holds vic false = inl refl
-states agg holds vic true = inr (inl refl)
-
-stuck : (vic : Spot) (value : Bool) → Has (on_bit StuckAt vic) (fault.StuckAt vic value)
-stuck vic false = inl refl
-stuck vic true = inr (inl refl)
+-- both values of a kind with two
+both : {X : Type 0} (make : Bool → X) (value : Bool) → Has (make false ∷ make true ∷ []) (make value)
+both make false = inl refl
+both make true = inr (inl refl)
 
 wired : (addr other : ℕ) (wired_and : Bool) → Has (on_cells Also addr other) (fault.Also addr other wired_and)
 wired addr other true = inl refl
 wired addr other false = inr (inl refl)
 
-complete : (width : Width) (first n : ℕ) (f : Fault) → IsFaultOfSlice width first n f → Has (one width first n ++ two width first n ++ three width first n ++ four width first n) f
-complete width first n (fault.StuckAt vic value) p = of_kind width first n StuckAt vic _ (inl refl) (record { word = p.inside.0; bit = p.placed.inside.0.1.0 }) (stuck vic value)
-complete width first n (fault.CannotRise vic) p = of_kind width first n CannotRise vic _ (inr (inl refl)) (record { word = p.inside.0; bit = p.placed.inside.0.1.0 }) (inl refl)
-complete width first n (fault.CannotFall vic) p = of_kind width first n CannotFall vic _ (inr (inr (inl refl))) (record { word = p.inside.0; bit = p.placed.inside.0.1.0 }) (inl refl)
-complete width first n (fault.Invert agg rise vic) p =
-    of_coupling width first n (Invert rise) agg vic _ (invert_kind rise) (record { word = p.inside.0; bit = p.placed.inside.0.1.0 }) (record { word = p.inside.1.0; bit = p.placed.inside.1.0.1.0 }) p.placed.apart (inl refl)
-complete width first n (fault.Force agg rise vic value) p =
-    of_coupling width first n (Force rise) agg vic _ (force_kind rise) (record { word = p.inside.0; bit = p.placed.inside.0.1.0 }) (record { word = p.inside.1.0; bit = p.placed.inside.1.0.1.0 }) p.placed.apart (forces agg rise vic value)
-complete width first n (fault.State agg holds vic value) p =
-    of_coupling width first n (State holds) agg vic _ (state_kind holds) (record { word = p.inside.0; bit = p.placed.inside.0.1.0 }) (record { word = p.inside.1.0; bit = p.placed.inside.1.0.1.0 }) p.placed.apart (states agg holds vic value)
+complete : (width : Width) (first n : ℕ) (f : Fault) → IsFaultOfSlice width first n f → Has (whole width first n) f
+unfolding of_kind
+complete width first n (fault.StuckAt vic value) p = in_bit width first n 0 StuckAt vic _ (omega arith) refl (record { word = p.inside.0; bit = p.placed.inside.0.1.0 }) (both (fault.StuckAt vic) value)
+complete width first n (fault.CannotRise vic) p = in_bit width first n 1 CannotRise vic _ (omega arith) refl (record { word = p.inside.0; bit = p.placed.inside.0.1.0 }) (inl refl)
+complete width first n (fault.CannotFall vic) p = in_bit width first n 2 CannotFall vic _ (omega arith) refl (record { word = p.inside.0; bit = p.placed.inside.0.1.0 }) (inl refl)
+complete width first n (fault.Invert agg true vic) p =
+    in_coupling width first n 3 (Invert true) agg vic _ (omega arith) refl (record { word = p.inside.0; bit = p.placed.inside.0.1.0 }) (record { word = p.inside.1.0; bit = p.placed.inside.1.0.1.0 }) p.placed.apart (inl refl)
+complete width first n (fault.Invert agg false vic) p =
+    in_coupling width first n 4 (Invert false) agg vic _ (omega arith) refl (record { word = p.inside.0; bit = p.placed.inside.0.1.0 }) (record { word = p.inside.1.0; bit = p.placed.inside.1.0.1.0 }) p.placed.apart (inl refl)
+complete width first n (fault.Force agg true vic value) p =
+    in_coupling width first n 5 (Force true) agg vic _ (omega arith) refl (record { word = p.inside.0; bit = p.placed.inside.0.1.0 }) (record { word = p.inside.1.0; bit = p.placed.inside.1.0.1.0 }) p.placed.apart (both (fault.Force agg true vic) value)
+complete width first n (fault.Force agg false vic value) p =
+    in_coupling width first n 6 (Force false) agg vic _ (omega arith) refl (record { word = p.inside.0; bit = p.placed.inside.0.1.0 }) (record { word = p.inside.1.0; bit = p.placed.inside.1.0.1.0 }) p.placed.apart (both (fault.Force agg false vic) value)
+complete width first n (fault.State agg false vic value) p =
+    in_coupling width first n 7 (State false) agg vic _ (omega arith) refl (record { word = p.inside.0; bit = p.placed.inside.0.1.0 }) (record { word = p.inside.1.0; bit = p.placed.inside.1.0.1.0 }) p.placed.apart (both (fault.State agg false vic) value)
+complete width first n (fault.State agg true vic value) p =
+    in_coupling width first n 8 (State true) agg vic _ (omega arith) refl (record { word = p.inside.0; bit = p.placed.inside.0.1.0 }) (record { word = p.inside.1.0; bit = p.placed.inside.1.0.1.0 }) p.placed.apart (both (fault.State agg true vic) value)
 complete width first n (fault.NoCell addr seen) p =
-    in_three width first n _ (has_flat_map (all_seen width) (range_with_len first n) addr _ (has_word first n addr p.inside.0)
+    listed width first n 9 kind.NoCell _ (omega arith) refl
+    (has_flat_map (all_seen width) (range_with_len first n) addr _ (has_word first n addr p.inside.0)
     (has_map (fault.NoCell addr) (range_with_len 0 (2 ^ width_bits width)) seen (has_range 0 (2 ^ width_bits width) seen (omega arith) (let l = p.placed.inside.1.0.0 in omega (arith, l)))))
-complete width first n (fault.Also addr other wired_and) p = of_crossing width first n Also addr other _ (inl refl) p.inside.0 p.inside.1.0 p.placed.apart (wired addr other wired_and)
-complete width first n (fault.Instead addr other) p = of_crossing width first n Instead addr other _ (inr (inl refl)) p.inside.0 p.inside.1.0 p.placed.apart (inl refl)
+complete width first n (fault.Also addr other wired_and) p = in_crossing width first n 10 Also addr other _ (omega arith) refl p.inside.0 p.inside.1.0 p.placed.apart (wired addr other wired_and)
+complete width first n (fault.Instead addr other) p = in_crossing width first n 11 Instead addr other _ (omega arith) refl p.inside.0 p.inside.1.0 p.placed.apart (inl refl)
 
 pub members : FaultsOfTheSliceAreListed
 unfolding faults_of
 members width first n f = (
-  λ c. sound width first n f (has_from (one width first n ++ two width first n ++ three width first n ++ four width first n) f c.0 c.1 c.2),
-  λ p. contains_from (one width first n ++ two width first n ++ three width first n ++ four width first n) f (complete width first n f p),
+  λ c. let k = of_flat_map (of_kind width first n) kinds f (has_from (whole width first n) f c.0 c.1 c.2) in of_one width first n k.0 f k.2,
+  λ p. contains_from (whole width first n) f (complete width first n f p),
 )

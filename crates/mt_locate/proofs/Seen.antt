@@ -91,3 +91,8 @@ unseen (m ∷ misses) x e t = absurd (cc)
 -- the first miss's word does not fit
 pub misfit : (misses : List Miss) (miss : Miss) (limit x : ℕ) → slice_get misses 0 ≡ Some miss → (miss.word < limit → ⊥) → x < limit → IsSomeAnd (slice_get misses 0) (λ m. m.word ≡ x) → ⊥
 misfit misses miss limit x first wide fits t = let e : miss.word ≡ x = word_is (slice_get misses 0) miss x first t in wide (omega (arith, e, fits))
+
+-- no fault, and none that explains
+pub none_explain : (probe : Probe) (misses : List Miss) → explaining probe misses [] ≡ []
+unfolding explaining
+none_explain probe misses = refl

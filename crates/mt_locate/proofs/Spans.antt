@@ -1,17 +1,19 @@
 -- What is missed, one access after another, beside what a list of misses says.
-use Rattle.std.proofs.Common.{ℕ, zero, suc, ◌+◌, ◌-◌, ◌<◌, ◌≤◌, ◌≡◌, ◌==◌, eqb, Bool, true, false, not, List, [], ◌∷◌, ◌++◌, map, take, drop, length, get_or, Option, Some, None, refl, sym, ap, ◌∙◌, arith, inl, inr}
-use Rattle.std.specs.Prelude.{◌↔◌, ◌≢◌, slice_get, is_some, filter_map, if◌then◌else◌}
+use Rattle.std.proofs.Common.{ℕ, zero, suc, ◌+◌, ◌-◌, ◌<◌, ◌≤◌, ◌≡◌, ◌==◌, eqb, Bool, true, false, not, List, [], ◌∷◌, ◌++◌, map, reverse, take, drop, length, get_or, Option, Some, None, refl, sym, ap, ◌∙◌, subst, arith, inl, inr}
+use Rattle.std.specs.Prelude.{◌↔◌, ◌≢◌, IsTrue, slice_get, if◌then◌else◌}
 use Rattle.std.specs.Bool.{then_some}
 use Rattle.std.specs.Option.{option_map, option_eq}
-use Rattle.std.specs.List.{range_with_len, cons_option}
-use Rattle.std.proofs.lemmas.Bool.{eq-eqb, ne_eqb, cases_eq}
-use Rattle.std.proofs.lemmas.List.{drop_more, drop_all, take_more, length-map}
-use Rattle.std.proofs.lemmas.Option.{get_or_from_slice_get, slice_get_within, slice_get-map}
+use Rattle.std.specs.List.{cons_option}
+use Rattle.std.proofs.lemmas.Bool.{eq-eqb, ne_eqb, cases_eq, cases_Bool}
+use Rattle.std.proofs.lemmas.List.{drop_all, take_more, length-map, reverse-append}
+use mathlib.Core.List.{map-append}
+use Rattle.std.proofs.lemmas.Option.{get_or_from_slice_get, slice_get-map}
 use Rattle.mt_word.specs.declared.Width.{Width}
 use Rattle.mt_fault.specs.declared.fault.Fault.{Fault}
 use Rattle.mt_fault.specs.History.{History}
 use Rattle.mt_fault.specs.Placement.{IsPlaced}
-use Rattle.mt_fault.specs.Faulty.{words_after, answer}
+use Rattle.mt_fault.specs.Faulty.{words_after, answer, address}
+use Rattle.mt_fault.specs.Projection.{names, own}
 use Rattle.mt_fault.specs.Items.{Item, Look, Check, Store, place, access_of, history, agrees}
 use Rattle.mt_fault.specs.Memory.{Memory, IsSound, after_access}
 use Rattle.mt_plan.specs.declared.algorithm.Act.{Act}
@@ -22,218 +24,167 @@ use Rattle.mt_plan.specs.Plan.{steps_of}
 use Rattle.mt_decoder.specs.Misses.{accesses, is_miss}
 use Rattle.mt_locate.specs.declared.probe.Probe.{Probe}
 use Rattle.mt_locate.specs.declared.probe.Miss.{Miss}
-use Rattle.mt_locate.specs.Misses.{answer_at, miss_at, misses_of, wrong_answer, word_of, told_at}
+use Rattle.mt_locate.specs.Misses.{answer_at, miss_at, misses_of, wrong_answer, told_at}
 use Rattle.mt_locate.specs.Explanations.{accesses_of}
+use Rattle.mt_locate.proofs.MissLists.{miss, misses_from, head_from, differs, counted, Agree, agree}
 
 -- the laws of mt_fault that are used here
 abbrev pub WordsCut : Type 0
 WordsCut =
-    (width : Width) (fault : Option Fault) (first : List ℕ) (xs ys : List Item) → IsPlaced width (length first) fault
-    → words_after fault first (history (xs ++ ys)) ≡ words_after fault (words_after fault first (history xs)) (history ys)
+    (width : Width) (fault : Option Fault) (first : List ℕ) (later earlier : History) → IsPlaced width (length first) fault
+    → words_after fault first (later ++ earlier) ≡ words_after fault (words_after fault first earlier) later
+
+abbrev pub OwnAnswers : Type 0
+OwnAnswers =
+    (fault : Fault) (first : List ℕ) (h : History) (a : ℕ) → IsTrue (names fault a) → answer (Some fault) first (own fault h) a ≡ answer (Some fault) first h a
 
 abbrev pub AnswersCut : Type 0
 AnswersCut =
     (width : Width) (fault : Option Fault) (first : List ℕ) (later earlier : History) → IsPlaced width (length first) fault
     → (a : ℕ) → a < length first → answer fault first (later ++ earlier) a ≡ answer fault (words_after fault first earlier) later a
 
-abbrev pub miss : ℕ → ℕ → Miss
-miss i x = record { index = i; word = x }
-
--- the misses of k accesses from an index on
-abbrev pub misses_from : Option Fault → List ℕ → List Item → (i k : ℕ) → List Miss
-misses_from fault words items i k = filter_map (miss_at fault words items) (range_with_len i k)
-
--- ---- lists of misses
-
-from_some : (misses : List Miss) (k : ℕ) (t : Miss) → slice_get misses k ≡ Some t → drop k misses ≡ t ∷ drop (k + 1) misses
-from_some misses k t at =
-    drop_more misses k t (slice_get_within misses k t at) ∙ ap (λ (x : Miss). x ∷ drop (k + 1) misses) (get_or_from_slice_get misses k t t at)
-
-from_none : (misses : List Miss) (k : ℕ) → slice_get misses k ≡ None → drop k misses ≡ []
-from_none [] zero at = refl
-from_none [] (suc k) at = refl
-from_none (x ∷ more) zero at = absurd (cc)
-from_none (x ∷ more) (suc k) at = from_none more k at
-
--- the first of them has at least that index
-head_from : (fault : Option Fault) (words : List ℕ) (items : List Item) (i k : ℕ) (t : Miss) (more : List Miss) → misses_from fault words items i k ≡ t ∷ more → i ≤ t.index
-head_from fault words items i zero t more e = absurd (cc)
-head_from fault words items i (suc k) t more e = of (λ f. head_from fault words items (i + 1) k t more f) (is_miss fault words items i) refl
-  where
-    of : (misses_from fault words items (i + 1) k ≡ t ∷ more → i + 1 ≤ t.index) → (b : Bool) → is_miss fault words items i ≡ b → i ≤ t.index
-    of later true is =
-        let x : ℕ = answer_at fault words items i in
-        let f : miss i x ∷ misses_from fault words items (i + 1) k ≡ t ∷ more =
-        ap (λ (b : Bool). cons_option (then_some b (miss i x)) (misses_from fault words items (i + 1) k)) (sym is) ∙ e in
-        let g : miss i x ≡ t = cc in
-        let h : i ≡ t.index = ap (λ (m : Miss). m.index) g in
-        omega arith
-    of later false is =
-        let x : ℕ = answer_at fault words items i in
-        let f : misses_from fault words items (i + 1) k ≡ t ∷ more =
-        ap (λ (b : Bool). cons_option (then_some b (miss i x)) (misses_from fault words items (i + 1) k)) (sym is) ∙ e in
-        let h : i + 1 ≤ t.index = later f in
-        omega arith
-
-told_some : (o : Option Miss) (i x : ℕ) → word_of o i ≡ Some x → o ≡ Some (miss i x)
-told_some None i x e = absurd (cc)
-told_some (Some t) i x e = elim (cases_eq t.index i) [
-  | inl same ↦
-      let f : Some t.word ≡ Some x = ap (λ (b : Bool). if b then Some t.word else None) (sym (eq-eqb t.index i same)) ∙ e in
-      let g : t.word ≡ x = cc in
-      ap (λ (n : ℕ). Some (miss n t.word)) same ∙ ap (λ (n : ℕ). Some (miss i n)) g
-  | inr apart ↦
-      let f : (if false then Some t.word else None) ≡ Some x = ap (λ (b : Bool). if b then Some t.word else None) (sym (ne_eqb t.index i apart)) ∙ e in
-      absurd (cc)
-]
-
-told_other : (t : Miss) (i : ℕ) → i + 1 ≤ t.index → word_of (Some t) i ≡ None
-told_other t i h = let apart : t.index ≢ i = λ e. absurd (omega (arith, h, e)) in ap (λ (b : Bool). if b then Some t.word else None) (ne_eqb t.index i apart)
-
-told_this : (i x : ℕ) → word_of (Some (miss i x)) i ≡ Some x
-told_this i x = ap (λ (b : Bool). if b then Some x else None) (eq-eqb i i refl)
-
-abbrev Later : ℕ → List Miss → Type 0
-Later i later = (t : Miss) (more : List Miss) → later ≡ t ∷ more → i + 1 ≤ t.index
-
-differs : (misses : List Miss) (before i : ℕ) (wrong : Option ℕ) (later : List Miss) → Later i later → wrong ≢ told_at misses before i
-    → cons_option (option_map (miss i) wrong) later ≡ drop before misses → ⊥
-differs misses before i wrong later indices apart e = of (slice_get misses before) refl wrong refl
-  where
-    of : (o : Option Miss) → slice_get misses before ≡ o → (w : Option ℕ) → wrong ≡ w → ⊥
-    of None at None is = apart (is ∙ ap (λ (o : Option Miss). word_of o i) (sym at))
-    of None at (Some x) is =
-        let f : miss i x ∷ later ≡ [] = ap (λ (w : Option ℕ). cons_option (option_map (miss i) w) later) (sym is) ∙ e ∙ from_none misses before at in
-        absurd (cc)
-    of (Some t) at None is =
-        let f : later ≡ t ∷ drop (before + 1) misses = ap (λ (w : Option ℕ). cons_option (option_map (miss i) w) later) (sym is) ∙ e ∙ from_some misses before t at in
-        apart (is ∙ sym (told_other t i (indices t (drop (before + 1) misses) f)) ∙ ap (λ (o : Option Miss). word_of o i) (sym at))
-    of (Some t) at (Some x) is =
-        let f : miss i x ∷ later ≡ t ∷ drop (before + 1) misses = ap (λ (w : Option ℕ). cons_option (option_map (miss i) w) later) (sym is) ∙ e ∙ from_some misses before t at in
-        let g : miss i x ≡ t = cc in
-        apart (is ∙ sym (told_this i x) ∙ ap (λ (m : Miss). word_of (Some m) i) g ∙ ap (λ (o : Option Miss). word_of o i) (sym at))
-
--- how many misses lie before the next access
-abbrev pub counted : ℕ → Option ℕ → ℕ
-counted before wrong = if is_some wrong then before + 1 else before
-
-record Agree (misses : List Miss) (before i : ℕ) (wrong : Option ℕ) (later : List Miss) : Type 0 where
-  few : counted before wrong ≤ length misses
-  same : (cons_option (option_map (miss i) wrong) later ≡ drop before misses) ↔ (later ≡ drop (counted before wrong) misses)
-
-agree : (misses : List Miss) (before i : ℕ) (wrong : Option ℕ) (later : List Miss) → before ≤ length misses → wrong ≡ told_at misses before i
-    → Agree misses before i wrong later
-agree misses before i None later few told = record { few = few; same = (λ e. e, λ e. e) }
-agree misses before i (Some x) later few told =
-    let at : slice_get misses before ≡ Some (miss i x) = told_some (slice_get misses before) i x (sym told) in
-    let here : drop before misses ≡ miss i x ∷ drop (before + 1) misses = from_some misses before (miss i x) at in
-    record {
-      few = omega (arith, slice_get_within misses before (miss i x) at);
-      same = (λ e. let f : miss i x ∷ later ≡ miss i x ∷ drop (before + 1) misses = e ∙ here in cc, λ e. ap (λ (l : List Miss). miss i x ∷ l) e ∙ sym here);
-    }
-
 -- ---- all accesses of a call
 
--- A memory after the first accesses of a list, all as the misses say.
-pub record Met (m : Memory) (items : List Item) (misses : List Miss) (i before : ℕ) (now : Memory) : Type 0 where
-  pub after : now ≡ record m { words = words_after m.fault m.words (history (take i items)) }
+pub history_of : (items : List Item) (i : ℕ) → i < length items → history (take (i + 1) items) ≡ access_of (get_or items i (Look 0)) ∷ history (take i items)
+unfolding history
+history_of items i l =
+    ap (λ (xs : List Item). reverse (map access_of xs)) (take_more items i (Look 0) l)
+    ∙ ap reverse (map-append access_of (take i items) (get_or items i (Look 0) ∷ []))
+    ∙ reverse-append (map access_of (take i items)) (access_of (get_or items i (Look 0)) ∷ [])
+
+-- A memory after those of the first accesses of a list that are of the fault's own words, where all were as the misses say.
+pub record Met (m : Memory) (f : Fault) (items : List Item) (misses : List Miss) (i before : ℕ) (now : Memory) : Type 0 where
+  pub after : now ≡ record m { words = words_after (Some f) m.words (own f (history (take i items))) }
   pub size : length now.words ≡ length m.words
   pub few : before ≤ length misses
-  pub same : (misses_of m.fault m.words items ≡ misses) ↔ (misses_from m.fault m.words items i (length items - i) ≡ drop before misses)
+  pub same : (misses_of (Some f) m.words items ≡ misses) ↔ (misses_from (Some f) m.words items i (length items - i) ≡ drop before misses)
 
-pub Met-none : (m : Memory) (items : List Item) (misses : List Miss) → IsSound m → Met m items misses 0 0 m
+pub Met-none : (m : Memory) (f : Fault) (items : List Item) (misses : List Miss) → m.fault ≡ Some f → IsSound m → Met m f items misses 0 0 m
 unfolding history misses_of
-Met-none m items misses sound = record {
-  after = ap (λ (ws : List ℕ). record m { words = ws }) (sym sound.settled);
+Met-none m f items misses there sound = record {
+  after = ap (λ (ws : List ℕ). record m { words = ws }) (sym sound.settled ∙ ap (λ (o : Option Fault). words_after o m.words []) there);
   size = refl;
   few = omega arith;
   same = (λ e. all ∙ e, λ e. sym all ∙ e);
 }
   where
-    all : misses_from m.fault m.words items 0 (length items - 0) ≡ misses_from m.fault m.words items 0 (length items)
-    all = ap (misses_from m.fault m.words items 0) (let e : length items - 0 ≡ length items = omega arith in e)
-
-agrees_cut : AnswersCut → (m : Memory) (h : History) (item : Item) → IsPlaced m.width (length m.words) m.fault → place item < length m.words
-    → agrees m.fault (words_after m.fault m.words h) [] item ≡ agrees m.fault m.words h item
-agrees_cut cut m h (Look a) placed inside = refl
-agrees_cut cut m h (Check a x) placed inside = ap (λ (y : ℕ). y == x) (sym (cut m.width m.fault m.words [] h placed a inside))
-agrees_cut cut m h (Store a x) placed inside = refl
-
-words_more : WordsCut → (m : Memory) (items : List Item) (i : ℕ) → IsSound m → i < length items
-    → words_after m.fault (words_after m.fault m.words (history (take i items))) (access_of (get_or items i (Look 0)) ∷ []) ≡ words_after m.fault m.words (history (take (i + 1) items))
-unfolding history
-words_more cut m items i sound within =
-    let item : Item = get_or items i (Look 0) in
-    sym (cut m.width m.fault m.words (take i items) (item ∷ []) sound.placed)
-    ∙ ap (λ (l : List Item). words_after m.fault m.words (history l)) (sym (take_more items i (Look 0) within))
+    all : misses_from (Some f) m.words items 0 (length items - 0) ≡ misses_from (Some f) m.words items 0 (length items)
+    all = ap (misses_from (Some f) m.words items 0) (let e : length items - 0 ≡ length items = omega arith in e)
 
 then_map : (b : Bool) (i x : ℕ) → then_some b (miss i x) ≡ option_map (miss i) (then_some b x)
 then_map true i x = refl
 then_map false i x = refl
 
--- One access more: what it answered.
-pub record Answered (m : Memory) (items : List Item) (i : ℕ) (now : Memory) (item : Item) (wrong : Option ℕ) : Type 0 where
+-- One access more: what it answered, if it was of a word of the fault; a read of any other word is no miss.
+pub record Answered (m : Memory) (f : Fault) (items : List Item) (i : ℕ) (now : Memory) (item : Item) (wrong : Option ℕ) : Type 0 where
   pub within : i < length items
   pub here : get_or items i (Look 0) ≡ item
   pub inside : place item < length m.words
-  pub is : wrong ≡ wrong_answer now item
+  pub own : names f (place item) ≡ true → wrong ≡ wrong_answer now item
+  pub other : names f (place item) ≡ false → wrong ≡ None
+  pub spared : names f (place item) ≡ false → is_miss (Some f) m.words items i ≡ false
 
-wrong_is : AnswersCut → (m : Memory) (items : List Item) (misses : List Miss) (i before : ℕ) {now : Memory} {item : Item} {wrong : Option ℕ}
-    → IsSound m → Met m items misses i before now → Answered m items i now item wrong → miss_at m.fault m.words items i ≡ option_map (miss i) wrong
-wrong_is cut m items misses i before {now} {item} {wrong} sound met answered =
-    let h : History = history (take i items) in
-    let e : wrong ≡ then_some (not (agrees m.fault m.words h item)) (answer m.fault m.words h (place item)) =
-    answered.is
-    ∙ ap (λ (x : Memory). wrong_answer x item) met.after
-    ∙ ap (λ (b : Bool). then_some (not b) (answer m.fault (words_after m.fault m.words h) [] (place item))) (agrees_cut cut m h item sound.placed answered.inside)
-    ∙ ap (then_some (not (agrees m.fault m.words h item))) (sym (cut m.width m.fault m.words [] h sound.placed (place item) answered.inside)) in
-    ap (λ (x : Item). then_some (not (agrees m.fault m.words h x)) (miss i (answer m.fault m.words h (place x)))) answered.here
-    ∙ then_map (not (agrees m.fault m.words h item)) i (answer m.fault m.words h (place item))
-    ∙ ap (option_map (miss i)) (sym e)
+-- the answer of one of the fault's words, after its own accesses alone
+own_answer : AnswersCut → OwnAnswers → (m : Memory) (f : Fault) (h : History) (a : ℕ) → IsPlaced m.width (length m.words) (Some f) → a < length m.words → names f a ≡ true
+    → answer (Some f) (words_after (Some f) m.words (own f h)) [] a ≡ answer (Some f) m.words h a
+own_answer cut owns m f h a placed inside named = sym (cut m.width (Some f) m.words [] (own f h) placed a inside) ∙ owns f m.words h a named
+
+own_agrees : AnswersCut → OwnAnswers → (m : Memory) (f : Fault) (h : History) (item : Item) → IsPlaced m.width (length m.words) (Some f) → place item < length m.words → names f (place item) ≡ true
+    → agrees (Some f) (words_after (Some f) m.words (own f h)) [] item ≡ agrees (Some f) m.words h item
+own_agrees cut owns m f h (Look a) placed inside named = refl
+own_agrees cut owns m f h (Check a x) placed inside named = ap (λ (y : ℕ). y == x) (own_answer cut owns m f h a placed inside named)
+own_agrees cut owns m f h (Store a x) placed inside named = refl
+
+wrong_is : AnswersCut → OwnAnswers → (m : Memory) (f : Fault) (items : List Item) (misses : List Miss) (i before : ℕ) {now : Memory} {item : Item} {wrong : Option ℕ}
+    → m.fault ≡ Some f → IsSound m → Met m f items misses i before now → Answered m f items i now item wrong → miss_at (Some f) m.words items i ≡ option_map (miss i) wrong
+wrong_is cut owns m f items misses i before {now} {item} {wrong} there sound met answered = elim (cases_Bool (names f (place item))) [
+  | inl named ↦
+      let h : History = history (take i items) in
+      let placed : IsPlaced m.width (length m.words) (Some f) = subst (IsPlaced m.width (length m.words)) there sound.placed in
+      let e : wrong ≡ then_some (not (agrees (Some f) m.words h item)) (answer (Some f) m.words h (place item)) =
+      answered.own named
+      ∙ ap (λ (x : Memory). wrong_answer x item) met.after
+      ∙ ap (λ (o : Option Fault). wrong_answer (record m { fault = o; words = words_after (Some f) m.words (own f h) }) item) there
+      ∙ ap (λ (b : Bool). then_some (not b) (answer (Some f) (words_after (Some f) m.words (own f h)) [] (place item))) (own_agrees cut owns m f h item placed answered.inside named)
+      ∙ ap (then_some (not (agrees (Some f) m.words h item))) (own_answer cut owns m f h (place item) placed answered.inside named) in
+      ap (λ (x : Item). then_some (not (agrees (Some f) m.words h x)) (miss i (answer (Some f) m.words h (place x)))) answered.here
+      ∙ then_map (not (agrees (Some f) m.words h item)) i (answer (Some f) m.words h (place item))
+      ∙ ap (option_map (miss i)) (sym e)
+  | inr far ↦
+      ap (λ (b : Bool). then_some b (miss i (answer_at (Some f) m.words items i))) (answered.spared far)
+      ∙ ap (option_map (miss i)) (sym (answered.other far))
+]
 
 -- the misses from an access on: its own, and those after it
-from_here : AnswersCut → (m : Memory) (items : List Item) (misses : List Miss) (i before : ℕ) {now : Memory} {item : Item} {wrong : Option ℕ}
-    → IsSound m → Met m items misses i before now → Answered m items i now item wrong
-    → misses_from m.fault m.words items i (length items - i) ≡ cons_option (option_map (miss i) wrong) (misses_from m.fault m.words items (i + 1) (length items - (i + 1)))
-from_here cut m items misses i before {now} {item} {wrong} sound met answered =
+from_here : AnswersCut → OwnAnswers → (m : Memory) (f : Fault) (items : List Item) (misses : List Miss) (i before : ℕ) {now : Memory} {item : Item} {wrong : Option ℕ}
+    → m.fault ≡ Some f → IsSound m → Met m f items misses i before now → Answered m f items i now item wrong
+    → misses_from (Some f) m.words items i (length items - i) ≡ cons_option (option_map (miss i) wrong) (misses_from (Some f) m.words items (i + 1) (length items - (i + 1)))
+from_here cut owns m f items misses i before {now} {item} {wrong} there sound met answered =
     let left : length items - i ≡ suc (length items - (i + 1)) = omega (arith, answered.within) in
-    let later : List Miss = misses_from m.fault m.words items (i + 1) (length items - (i + 1)) in
-    ap (misses_from m.fault m.words items i) left
-    ∙ ap (λ (o : Option Miss). cons_option o later) (wrong_is cut m items misses i before sound met answered)
+    let later : List Miss = misses_from (Some f) m.words items (i + 1) (length items - (i + 1)) in
+    ap (misses_from (Some f) m.words items i) left
+    ∙ ap (λ (o : Option Miss). cons_option o later) (wrong_is cut owns m f items misses i before there sound met answered)
 
-pub Met-more : WordsCut → AnswersCut → (m : Memory) (items : List Item) (misses : List Miss) (i before : ℕ) (item : Item) {a b : Memory} {wrong : Option ℕ}
-    → IsSound m → Met m items misses i before a → Answered m items i a item wrong → b ≡ after_access a (access_of item) → length b.words ≡ length a.words
-    → wrong ≡ told_at misses before i → Met m items misses (i + 1) (counted before wrong) b
-Met-more words cut m items misses i before item {a} {b} {wrong} sound met answered after size told =
-    let later : List Miss = misses_from m.fault m.words items (i + 1) (length items - (i + 1)) in
-    let ws : List ℕ = words_after m.fault m.words (history (take i items)) in
+address_is : (item : Item) → address (access_of item) ≡ place item
+address_is (Look a) = refl
+address_is (Check a x) = refl
+address_is (Store a x) = refl
+
+-- What becomes of the memory: an access of a word of the fault is made, and any other is left out.
+pub record Moves (f : Fault) (item : Item) (a b : Memory) : Type 0 where
+  pub own : names f (place item) ≡ true → b ≡ after_access a (access_of item)
+  pub other : names f (place item) ≡ false → b ≡ a
+  pub size : length b.words ≡ length a.words
+
+words_more : WordsCut → (m : Memory) (f : Fault) (items : List Item) (i : ℕ) (item : Item) {a b : Memory} → m.fault ≡ Some f → IsSound m → i < length items → get_or items i (Look 0) ≡ item
+    → a ≡ record m { words = words_after (Some f) m.words (own f (history (take i items))) } → Moves f item a b
+    → b ≡ record m { words = words_after (Some f) m.words (own f (history (take (i + 1) items))) }
+words_more cut m f items i item {a} {b} there sound within here now moves =
+    let h : History = history (take i items) in
+    let next : history (take (i + 1) items) ≡ access_of item ∷ h = history_of items i within ∙ ap (λ (x : Item). access_of x ∷ h) here in
+    elim (cases_Bool (names f (place item))) [
+      | inl named ↦
+          let kept : own f (access_of item ∷ h) ≡ access_of item ∷ own f h = ap (λ (t : Bool). if t then access_of item ∷ own f h else own f h) (ap (names f) (address_is item) ∙ named) in
+          moves.own named ∙ ap (λ (x : Memory). after_access x (access_of item)) now
+          ∙ ap (λ (o : Option Fault). record m { words = words_after o (words_after (Some f) m.words (own f h)) (access_of item ∷ []) }) there
+          ∙ ap (λ (ws : List ℕ). record m { words = ws }) (sym (cut m.width (Some f) m.words (access_of item ∷ []) (own f h) (subst (IsPlaced m.width (length m.words)) there sound.placed)))
+          ∙ ap (λ (g : History). record m { words = words_after (Some f) m.words g }) (sym kept ∙ ap (own f) (sym next))
+      | inr far ↦
+          let dropped : own f (access_of item ∷ h) ≡ own f h = ap (λ (t : Bool). if t then access_of item ∷ own f h else own f h) (ap (names f) (address_is item) ∙ far) in
+          moves.other far ∙ now
+          ∙ ap (λ (g : History). record m { words = words_after (Some f) m.words g }) (sym dropped ∙ ap (own f) (sym next))
+    ]
+
+pub Met-more : WordsCut → AnswersCut → OwnAnswers → (m : Memory) (f : Fault) (items : List Item) (misses : List Miss) (i before : ℕ) (item : Item) {a b : Memory} {wrong : Option ℕ}
+    → m.fault ≡ Some f → IsSound m → Met m f items misses i before a → Answered m f items i a item wrong → Moves f item a b
+    → wrong ≡ told_at misses before i → Met m f items misses (i + 1) (counted before wrong) b
+Met-more words cut owns m f items misses i before item {a} {b} {wrong} there sound met answered moves told =
+    let later : List Miss = misses_from (Some f) m.words items (i + 1) (length items - (i + 1)) in
     let all : Agree misses before i wrong later = agree misses before i wrong later met.few told in
-    let here = from_here cut m items misses i before sound met answered in
+    let here = from_here cut owns m f items misses i before there sound met answered in
     record {
-      after = after ∙ ap (λ (x : Memory). after_access x (access_of item)) met.after
-          ∙ ap (λ (x : Item). record m { words = words_after m.fault ws (access_of x ∷ []) }) (sym answered.here)
-          ∙ ap (λ (l : List ℕ). record m { words = l }) (words_more words m items i sound answered.within);
-      size = size ∙ met.size;
+      after = words_more words m f items i item there sound answered.within answered.here met.after moves;
+      size = moves.size ∙ met.size;
       few = all.few;
       same = (λ e. all.same.0 (sym here ∙ met.same.0 e), λ e. met.same.1 (here ∙ all.same.1 e));
     }
 
-pub Met-differs : AnswersCut → (m : Memory) (items : List Item) (misses : List Miss) (i before : ℕ) (item : Item) {a : Memory} {wrong : Option ℕ}
-    → IsSound m → Met m items misses i before a → Answered m items i a item wrong → wrong ≢ told_at misses before i
-    → misses_of m.fault m.words items ≡ misses → ⊥
-Met-differs cut m items misses i before item {a} {wrong} sound met answered apart e =
+pub Met-differs : AnswersCut → OwnAnswers → (m : Memory) (f : Fault) (items : List Item) (misses : List Miss) (i before : ℕ) (item : Item) {a : Memory} {wrong : Option ℕ}
+    → m.fault ≡ Some f → IsSound m → Met m f items misses i before a → Answered m f items i a item wrong → wrong ≢ told_at misses before i
+    → misses_of (Some f) m.words items ≡ misses → ⊥
+Met-differs cut owns m f items misses i before item {a} {wrong} there sound met answered apart e =
     let rest : ℕ = length items - (i + 1) in
-    differs misses before i wrong (misses_from m.fault m.words items (i + 1) rest)
-    (λ t more f. head_from m.fault m.words items (i + 1) rest t more f) apart
-    (sym (from_here cut m items misses i before sound met answered) ∙ met.same.0 e)
+    differs misses before i wrong (misses_from (Some f) m.words items (i + 1) rest)
+    (λ t more g. head_from (Some f) m.words items (i + 1) rest t more g) apart
+    (sym (from_here cut owns m f items misses i before there sound met answered) ∙ met.same.0 e)
 
-pub Met-all : (m : Memory) (items : List Item) (misses : List Miss) (before : ℕ) {now : Memory} → Met m items misses (length items) before now
-    → (before ≡ length misses) ↔ (misses_of m.fault m.words items ≡ misses)
-Met-all m items misses before met =
+pub Met-all : (m : Memory) (f : Fault) (items : List Item) (misses : List Miss) (before : ℕ) {now : Memory} → Met m f items misses (length items) before now
+    → (before ≡ length misses) ↔ (misses_of (Some f) m.words items ≡ misses)
+Met-all m f items misses before met =
     let none : length items - length items ≡ 0 = omega arith in
-    let end : misses_from m.fault m.words items (length items) (length items - length items) ≡ [] = ap (misses_from m.fault m.words items (length items)) none in (
+    let end : misses_from (Some f) m.words items (length items) (length items - length items) ≡ [] = ap (misses_from (Some f) m.words items (length items)) none in (
       λ e. met.same.1 (end ∙ sym (drop_all before misses (omega (arith, e)))),
-      λ e. let f : [] ≡ drop before misses = sym end ∙ met.same.0 e in over before misses met.few (sym f),
+      λ e. let g : [] ≡ drop before misses = sym end ∙ met.same.0 e in over before misses met.few (sym g),
     )
   where
     over : (k : ℕ) (l : List Miss) → k ≤ length l → drop k l ≡ [] → k ≡ length l
@@ -262,20 +213,6 @@ place_of width addr back WritePlain = refl
 place_of width addr back WriteFlipped = refl
 place_of width addr back ReadPlain = refl
 place_of width addr back ReadFlipped = refl
-
-pub step_answered : (probe : Probe) (m : Memory) (i : ℕ) (step : Step) {now : Memory} {wrong : Option ℕ}
-    → length m.words ≡ probe.n → i < length (steps_of probe.alg probe.n) → slice_get (steps_of probe.alg probe.n) i ≡ Some step → step.cell < probe.n
-    → wrong ≡ wrong_answer now (act_on probe.width step.cell probe.background step.act)
-    → Answered m (accesses_of probe) i now (act_on probe.width step.cell probe.background step.act) wrong
-step_answered probe m i step {now} {wrong} size within at inside is =
-    let item : Item = act_on probe.width step.cell probe.background step.act in
-    let addr : place item ≡ step.cell = place_of probe.width step.cell probe.background step.act in
-    record {
-      within = omega (arith, within, length-accesses probe);
-      here = access_at probe i step at;
-      inside = omega (arith, addr, size, inside);
-      is = is;
-    }
 
 -- ---- the comparison of what was answered and what the misses say
 

@@ -14,7 +14,7 @@ use Rattle.mt_locate.specs.Listed.{same_miss, explains, ExplainsIsTested}
 miss_is : (a b : Miss) → a.index ≡ b.index → a.word ≡ b.word → a ≡ b
 miss_is a b p q = ap (λ (i : ℕ). record { index = i; word = a.word }) p ∙ ap (λ (w : ℕ). record { index = b.index; word = w }) q
 
-and_true : (a b : Bool) → (a && b) ≡ true → (a ≡ true) × (b ≡ true)
+pub and_true : (a b : Bool) → (a && b) ≡ true → (a ≡ true) × (b ≡ true)
 and_true true b e = (refl, e)
 and_true false b e = absurd (cc)
 

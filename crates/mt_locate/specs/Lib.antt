@@ -4,5 +4,7 @@ pub mod Misses
 pub mod Explanations
 pub mod Suspects
 pub mod Listed
+pub mod Order
+pub mod Lanes
 pub mod LocateLines
 pub mod Inner

@@ -17,6 +17,8 @@ use Rattle.mt_locate.specs.declared.kinds.OfBit.TheVariants.{StuckAt, CannotRise
 use Rattle.mt_locate.specs.declared.kinds.Coupling.{Coupling}
 use Rattle.mt_locate.specs.declared.kinds.Coupling.TheVariants.{Invert, Force, State}
 use Rattle.mt_locate.specs.declared.kinds.OfCells.{OfCells}
+use Rattle.mt_locate.specs.declared.kinds.Kind.{Kind}
+use Rattle.mt_locate.specs.declared.kinds.Kind.TheVariants as kind
 use Rattle.mt_locate.specs.declared.kinds.OfCells.TheVariants.{Also, Instead}
 use Rattle.mt_locate.specs.Explanations.{misses_under, Explains}
 use Rattle.mt_locate.specs.Moved.{IsFaultOfSlice}
@@ -71,23 +73,25 @@ all_seen width addr = map (fault.NoCell addr) (range_with_len 0 (2 ^ width_bits 
 abbrev pub all_crossed : (first n : ℕ) → OfCells → List Fault
 all_crossed first n kind = flat_map (λ addr. flat_map (crossed kind addr) (range_with_len first n)) (range_with_len first n)
 
--- the kinds in their order: faults of a bit, coupling faults, and behind them words without a cell and faults of two cells
-abbrev pub bit_kinds : List OfBit
-bit_kinds = StuckAt ∷ CannotRise ∷ CannotFall ∷ []
+-- the kinds in their order: faults of a bit, coupling faults, words without a cell, and faults of two cells
+abbrev pub kinds : List Kind
+kinds =
+    kind.OfBit StuckAt ∷ kind.OfBit CannotRise ∷ kind.OfBit CannotFall
+    ∷ kind.Coupling (Invert true) ∷ kind.Coupling (Invert false)
+    ∷ kind.Coupling (Force true) ∷ kind.Coupling (Force false)
+    ∷ kind.Coupling (State false) ∷ kind.Coupling (State true)
+    ∷ kind.NoCell ∷ kind.OfCells Also ∷ kind.OfCells Instead ∷ []
 
-abbrev pub coupling_kinds : List Coupling
-coupling_kinds = Invert true ∷ Invert false ∷ Force true ∷ Force false ∷ State false ∷ State true ∷ []
-
-abbrev pub cell_kinds : List OfCells
-cell_kinds = Also ∷ Instead ∷ []
+-- all faults of one kind
+unfoldable pub of_kind : Width → (first n : ℕ) → Kind → List Fault
+of_kind width first n (kind.OfBit k) = all_on_bit width first n k
+of_kind width first n (kind.Coupling k) = all_coupled width first n k
+of_kind width first n kind.NoCell = flat_map (all_seen width) (range_with_len first n)
+of_kind width first n (kind.OfCells k) = all_crossed first n k
 
 -- all faults inside the n words from `first` on
 unfoldable pub faults_of : Width → (first n : ℕ) → List Fault
-faults_of width first n =
-    flat_map (all_on_bit width first n) bit_kinds
-    ++ flat_map (all_coupled width first n) coupling_kinds
-    ++ flat_map (all_seen width) (range_with_len first n)
-    ++ flat_map (all_crossed first n) cell_kinds
+faults_of width first n = flat_map (of_kind width first n) kinds
 
 -- the list has each fault of the slice, and no other
 abbrev pub FaultsOfTheSliceAreListed : Type 0

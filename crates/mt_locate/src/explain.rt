@@ -1,9 +1,10 @@
 //! Whether a fault explains what was read.
 
-ghost use Rattle.std.specs.Prelude.{◌≡◌, ◌<◌, ◌↔◌, IsTrue, length, None};
+ghost use Rattle.std.specs.Prelude.{◌≡◌, ◌<◌, ◌↔◌, ◌==◌, ◌||◌, ℕ, IsTrue, true, false, length, None, Some};
 ghost use Rattle.mt_word.specs.Word.{Fits};
 ghost use Rattle.mt_fault.specs.Items.{access_of};
 ghost use Rattle.mt_fault.specs.Memory.{Memory, after_access};
+ghost use Rattle.mt_fault.specs.Projection.{names};
 ghost use Rattle.mt_plan.specs.Accesses.{act_on};
 ghost use Rattle.mt_locate.specs.Probes.{IsAcceptedProbe, scratch_of};
 ghost use Rattle.mt_locate.specs.Moved.{IsFaultOfSlice};
@@ -14,10 +15,10 @@ use crate::laws::faults_of_a_slice_stay_well_placed;
 use crate::moved::moved_down;
 use crate::probe::{Miss, Probe};
 use mt_fault::{
-    Cells, Fault, memory_without_a_fault_is_plain, placement_is_tested, span_may_be_cut,
-    test_accesses_may_be_cut,
+    Cells, Fault, memory_without_a_fault_is_plain, other_words_do_not_matter, placement_is_tested,
+    span_may_be_cut,
 };
-use mt_plan::{Act, Steps, steps};
+use mt_plan::{Act, Step, Steps, plans_are_steady, steps};
 use mt_word::{Width, flip};
 
 /// Makes one step on the word at an address; where it is a checked read that answered another word, it answers that one.
@@ -51,6 +52,47 @@ fn wrong_answer(
     (answer != expected).then_some(answer)
 }
 
+/// The words of a fault; a fault with one has it twice.
+fn own_words(fault: Fault) -> (u32, u32)
+    ensures { (a : ℕ) → names fault a ≡ (a == result.0 || a == result.1) }
+{
+    match fault {
+        Fault::StuckAt { vic, .. } | Fault::CannotRise { vic } | Fault::CannotFall { vic } => {
+            (vic.word, vic.word)
+        }
+        Fault::Invert { agg, vic, .. }
+        | Fault::Force { agg, vic, .. }
+        | Fault::State { agg, vic, .. } => (agg.word, vic.word),
+        Fault::NoCell { addr, .. } => (addr, addr),
+        Fault::Also { addr, other, .. } | Fault::Instead { addr, other } => (addr, other),
+    }
+}
+
+/// Makes one step, if it is on one of two words; where it is a checked read that answered another word, it answers that
+/// one.
+fn own_answer(
+    cells: &mut Cells,
+    own: (u32, u32),
+    width: Width,
+    background: u64,
+    step: Step,
+) -> Option<u64>
+    requires width { width ≡ cells.old.width }
+    requires cell { step.cell < length cells.old.words }
+    requires background { Fits width background }
+    ensures own { (step.cell == own.0 || step.cell == own.1) ≡ true
+        → (cells.new ≡ after_access cells.old (access_of (act_on width step.cell background step.act)))
+        × (result ≡ wrong_answer cells.old (act_on width step.cell background step.act)) }
+    ensures other { (step.cell == own.0 || step.cell == own.1) ≡ false → (cells.new ≡ cells.old) × (result ≡ None) }
+    ensures size { length cells.new.words ≡ length cells.old.words }
+{
+    let addr = u32::from(step.cell);
+    if addr == own.0 || addr == own.1 {
+        return wrong_answer(cells, width, addr, background, step.act);
+    }
+    None
+}
+
 /// What the misses say of the access with an index, where so many of them are of accesses before it.
 fn told(misses: &[Miss], before: usize, index: u32) -> Option<u64>
     ensures told { result ≡ told_at misses.now before index }
@@ -61,26 +103,28 @@ fn told(misses: &[Miss], before: usize, index: u32) -> Option<u64>
     }
 }
 
-/// Makes the accesses of a probe, up to the first of which the misses say something else than it answered, and answers
-/// whether there is none.
-fn misses_exactly(cells: &mut Cells, probe: &Probe, misses: &[Miss]) -> bool
+/// Makes the accesses of a probe that are of the fault's own words, up to the first of which the misses say something else
+/// than it answered, and answers whether there is none. A read of another word is no miss.
+fn misses_exactly(cells: &mut Cells, probe: &Probe, misses: &[Miss], fault: Fault) -> bool
     requires accepted { IsAcceptedProbe probe.now }
     requires width { cells.old.width ≡ probe.now.width }
     requires size { length cells.old.words ≡ probe.now.n }
+    requires fault { cells.old.fault ≡ Some fault }
     ensures width { cells.new.width ≡ cells.old.width }
     ensures size { length cells.new.words ≡ length cells.old.words }
-    ensures exact { IsTrue result ↔ (misses_of cells.old.fault cells.old.words (accesses_of probe.now) ≡ misses.now) }
+    ensures exact { IsTrue result ↔ (misses_of (Some fault) cells.old.words (accesses_of probe.now) ≡ misses.now) }
 {
-    test_accesses_may_be_cut();
     span_may_be_cut();
+    other_words_do_not_matter();
+    plans_are_steady();
     let width = cells.width();
     let n = u32::from(probe.n);
+    let own = own_words(fault);
     let mut made = 0;
     let mut cursor = Steps::new(&probe.alg, n);
     for index in 0..steps(&probe.alg, n) {
         let step = cursor.next(&probe.alg);
-        let addr = u32::from(step.cell);
-        let wrong = wrong_answer(cells, width, addr, probe.background, step.act);
+        let wrong = own_answer(cells, own, width, probe.background, step);
         if wrong != told(misses, made, index) {
             return false;
         }
@@ -123,7 +167,7 @@ pub fn explains(cells: &mut Cells, probe: &Probe, misses: &[Miss], fault: Fault)
     if cells.inject(moved).is_err() {
         unreachable!()
     }
-    let explained = misses_exactly(cells, probe, misses);
+    let explained = misses_exactly(cells, probe, misses, moved);
     cells.heal();
     reset(cells, probe);
     explained

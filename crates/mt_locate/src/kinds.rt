@@ -1,7 +1,7 @@
 //! The kinds of faults, in the order in which they are listed.
 
 ghost use Rattle.std.specs.Prelude.{◌≡◌};
-ghost use Rattle.mt_locate.specs.Listed.{bit_kinds, coupling_kinds, cell_kinds};
+ghost use Rattle.mt_locate.specs.Listed.{kinds};
 
 /// A kind of faults of one bit.
 #[derive(Clone, Copy)]
@@ -29,27 +29,31 @@ pub enum OfCells {
     Instead,
 }
 
-pub const fn bit_kinds() -> [OfBit; 3]
-    ensures { result ≡ bit_kinds }
-{
-    [OfBit::StuckAt, OfBit::CannotRise, OfBit::CannotFall]
+/// A kind of faults of the list.
+#[derive(Clone, Copy)]
+pub enum Kind {
+    OfBit(OfBit),
+    Coupling(Coupling),
+    NoCell,
+    OfCells(OfCells),
 }
 
-pub const fn coupling_kinds() -> [Coupling; 6]
-    ensures { result ≡ coupling_kinds }
+/// The kinds in the order of the list.
+pub const fn kinds() -> [Kind; 12]
+    ensures { result ≡ kinds }
 {
     [
-        Coupling::Invert { rise: true },
-        Coupling::Invert { rise: false },
-        Coupling::Force { rise: true },
-        Coupling::Force { rise: false },
-        Coupling::State { holds: false },
-        Coupling::State { holds: true },
+        Kind::OfBit(OfBit::StuckAt),
+        Kind::OfBit(OfBit::CannotRise),
+        Kind::OfBit(OfBit::CannotFall),
+        Kind::Coupling(Coupling::Invert { rise: true }),
+        Kind::Coupling(Coupling::Invert { rise: false }),
+        Kind::Coupling(Coupling::Force { rise: true }),
+        Kind::Coupling(Coupling::Force { rise: false }),
+        Kind::Coupling(Coupling::State { holds: false }),
+        Kind::Coupling(Coupling::State { holds: true }),
+        Kind::NoCell,
+        Kind::OfCells(OfCells::Also),
+        Kind::OfCells(OfCells::Instead),
     ]
-}
-
-pub const fn cell_kinds() -> [OfCells; 2]
-    ensures { result ≡ cell_kinds }
-{
-    [OfCells::Also, OfCells::Instead]
 }

@@ -2,7 +2,9 @@
 
 ghost use Rattle.mt_locate.specs.Explanations.{MissesAreThoseOfTheMemory};
 ghost use Rattle.mt_locate.specs.Listed.{ExplainsIsTested, FaultsAreListedOnce, FaultsOfTheSliceAreListed};
+ghost use Rattle.mt_locate.specs.Lanes.{BitsDecide};
 ghost use Rattle.mt_locate.specs.Moved.{FaultsStayWellPlaced};
+ghost use Rattle.mt_locate.specs.Order.{FaultsAreInOrder};
 ghost use Rattle.mt_locate.specs.Suspects.{CulpritsAreSuspects, FirstMissTellsWhatIsSeen};
 
 use mt_plan::plans_are_steady;
@@ -27,10 +29,17 @@ pub fn faults_of_the_slice_are_listed()
     ensures { FaultsOfTheSliceAreListed }
 {}
 
+/// That list rises strictly, by the kinds in the order of the script's table and then by the fields of the lines.
+pub fn faults_are_listed_in_order()
+    ensures { FaultsAreInOrder }
+{}
+
 /// In that list no fault stands twice.
 pub fn faults_are_listed_once()
     ensures { FaultsAreListedOnce }
-{}
+{
+    faults_are_listed_in_order();
+}
 
 /// The faults of a list that explain the misses are those of the definition.
 pub fn explaining_is_tested()
@@ -48,6 +57,16 @@ pub fn first_miss_tells_what_is_seen()
 /// A fault that explains the misses is one that may make the read of the first miss answer so.
 pub fn culprits_are_suspects()
     ensures { CulpritsAreSuspects }
+{
+    bits_are_put();
+    plans_are_steady();
+    faults_of_a_slice_stay_well_placed();
+}
+
+/// Whether a coupling fault explains that nothing was missed is decided by two bits: by how the probe treats those of the
+/// aggressor and of the victim, and by the steps on their words.
+pub fn bits_decide()
+    ensures { BitsDecide }
 {
     bits_are_put();
     plans_are_steady();

@@ -1,23 +1,28 @@
 //! Fault location: which single faults explain what was read of a slice.
 #![tactic(auto)]
 
+mod disturbance;
 mod evidence;
 mod explain;
+mod faults;
 mod kinds;
+mod lanes;
 mod laws;
 mod list;
 mod miss_line;
 mod moved;
+mod page;
 mod probe;
 mod refusal;
 mod slice_line;
 mod stand_in;
+mod unseen;
 mod words;
 
 pub use explain::explains;
 pub use laws::{
-    culprits_are_suspects, explaining_is_tested, faults_are_listed_once,
-    faults_of_a_slice_stay_well_placed, faults_of_the_slice_are_listed,
+    bits_decide, culprits_are_suspects, explaining_is_tested, faults_are_listed_in_order,
+    faults_are_listed_once, faults_of_a_slice_stay_well_placed, faults_of_the_slice_are_listed,
     first_miss_tells_what_is_seen, misses_are_those_of_the_memory,
 };
 pub use list::list_faults;
@@ -27,5 +32,7 @@ pub use refusal::{LocateKind, LocateRefusal};
 pub use slice_line::read_slice;
 pub use stand_in::scratch;
 
+#[cfg(test)]
+mod line_tests;
 #[cfg(test)]
 mod tests;

@@ -25,7 +25,7 @@ pub use laws::{
     the_least_rule_is_told, trace_lines_stand_in_order, words_have_hexadecimal_digits,
 };
 pub use line::{Event, FlsCall, Line, LineKind, LineRefusal, RamCall};
-pub use line_text::{push_line, write_line};
+pub use line_text::{push_fault_line, push_line, write_line};
 pub use reading::read_line;
 pub use token::{Token, number_of};
 

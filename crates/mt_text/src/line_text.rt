@@ -4,11 +4,13 @@ ghost use Rattle.std.specs.Prelude.{◌≡◌, ◌≤◌, ◌+◌, ◌*◌, ◌+
 ghost use Rattle.std.specs.Io.KnownBytes.{Appends};
 ghost use Rattle.mt_port.specs.Causes.{HasCause};
 ghost use Rattle.mt_port.specs.Streams.{AppendsFront};
+ghost use Rattle.mt_text.specs.Lines.{line};
 ghost use Rattle.mt_text.specs.Canonical.{text_of, further_ops, handler_pieces, request_pieces, requests_pieces, canonical};
 
 use crate::event_text::{LineText, push_event, push_op};
-use crate::line::Line;
+use crate::line::{Event, Line};
 use arrayvec::ArrayVec;
+use mt_fault::Fault;
 use mt_hex::{push_bytes, push_number};
 use mt_port::{Failed, HandlerOp, Request, Shape, Sink, put};
 use mt_word::Width;
@@ -69,6 +71,16 @@ pub fn push_line(out: &mut LineText, line: &Line, width: Width)
 {
     push_event(out, width, line.event);
     push_requests(out, width, line.requests.as_slice());
+    out.push(b'\n');
+}
+
+/// Appends the canonical text of the line that injects a fault, with a line feed, to an empty text.
+#[tactic(auto, unfolding(crate::specs::Canonical::canonical))]
+pub fn push_fault_line(out: &mut LineText, fault: Fault, width: Width)
+    requires { out.old.items ≡ [] }
+    ensures { out.new.items ≡ canonical width (line (Event.Inject fault) []) ++ codes "\n" }
+{
+    push_event(out, width, Event::Inject(fault));
     out.push(b'\n');
 }
 

@@ -6,7 +6,7 @@ use Rattle.mt_locate.proofs.explain.misses_exactly.Given as goal
 
 abbrev pub invariant-loop-index : goal.invariant-loop-index
 invariant-loop-index l = record {
-  met : Met l.initial.cells (accesses_of l.probe) l.misses l.index l.made l.cells;
+  met : Met l.initial.cells l.fn.fault (accesses_of l.probe) l.misses l.index l.made l.cells;
   cursor : IsCursor l.probe.alg l.cursor;
   cells : cells_of l.cursor ≡ l.probe.n;
   index : made_by l.cursor ≡ l.index;
