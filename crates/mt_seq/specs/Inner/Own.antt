@@ -124,10 +124,10 @@ own_accesses b job slice =
 
 -- a cell of a slice by what its saving read answered
 abbrev pub named_with : Ground → ℕ → ℕ → Named
-named_with ground cell word =
-    let plain = if ground.transparent then word else ground.background in
-    record { cell = cell; saved = word; target = record { addr = ground.first + cell; plain = plain; flipped = complement_of ground.width plain } }
+named_with area cell word =
+    let plain = if area.transparent then word else area.background in
+    record { cell = cell; saved = word; target = record { addr = area.first + cell; plain = plain; flipped = complement_of area.width plain } }
 
 -- the same by what a memory answers
 abbrev pub read_cell : Ground → Board → ℕ → Named
-read_cell ground b cell = named_with ground cell (answered b.fault b.words (ground.first + cell))
+read_cell area b cell = named_with area cell (answered b.fault b.words (area.first + cell))
