@@ -10,16 +10,15 @@ ghost use Rattle.mt_verify.specs.Lines.{feed_limit};
 ghost use Rattle.mt_port.specs.Memory.{plain_left};
 ghost use Rattle.mt_text.specs.Accepted.{IsAccepted as IsAcceptedLine};
 ghost use Rattle.mt_text.specs.Trace.{entries_text};
-ghost use Rattle.mt_replay.specs.Machine.{machine, IsReady};
+ghost use Rattle.mt_machine.specs.Machine.{machine, IsReady};
 ghost use Rattle.mt_replay.specs.Changes.{UsesBoard};
 ghost use Rattle.mt_replay.specs.Inner.Comparing.{Compares, KeepsCause, IsDrained};
 ghost use Rattle.mt_replay.specs.Inner.Replaying.{Played, IsScript, PlayedWhole, HasLine, TakesFirst};
 
 use crate::comparing::Comparison;
-use crate::event::perform;
 use crate::form::Form;
 use crate::input::{Input, LineText};
-use crate::modules::Modules;
+use mt_machine::{Modules, perform};
 use crate::text::done_text;
 use arrayvec::ArrayVec;
 use mt_fls::running_calls_keep_the_board as fls_keeps_the_board;

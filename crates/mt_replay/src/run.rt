@@ -6,15 +6,14 @@ ghost use Rattle.mt_port.specs.Causes.{HasCause};
 ghost use Rattle.mt_port.specs.Streams.{AppendsFront, WhereTold};
 ghost use Rattle.mt_text.specs.Accepted.{IsAccepted as IsAcceptedLine};
 ghost use Rattle.mt_text.specs.Trace.{entries_text};
-ghost use Rattle.mt_replay.specs.Machine.{Machine, machine, IsReady};
+ghost use Rattle.mt_machine.specs.Machine.{Machine, machine, IsReady};
 ghost use Rattle.mt_replay.specs.Script.{judged};
 ghost use Rattle.mt_replay.specs.Changes.{change, UsesBoard};
 ghost use Rattle.mt_replay.specs.Inner.Runs.{outputs, place, text_at, Answered, LineGives, LastGives, TurnGives, ScriptGives, PastGives, EndCaused, TurnCaused, ScriptCaused, IsReadyFor};
 
-use crate::event::perform;
 use crate::form::{Form, Task};
 use crate::input::{Input, Line as Reading, LineText};
-use crate::modules::Modules;
+use mt_machine::{Modules, perform};
 use arrayvec::ArrayVec;
 use mt_fls::running_calls_keep_the_board as fls_keeps_the_board;
 use mt_port::{Bench, Failed, Shape, Sink, Source, put};

@@ -4,14 +4,13 @@ ghost use Rattle.std.specs.Prelude.{◌≡◌, ◌≢◌, ◌≤◌, length};
 ghost use Rattle.mt_text.specs.Accepted.{IsAccepted as IsAcceptedLine};
 ghost use Rattle.mt_ram.specs.Results.{overall};
 ghost use Rattle.mt_gen.specs.Script.{job_shape, script};
-ghost use Rattle.mt_replay.specs.Machine.{machine, step, IsReady};
+ghost use Rattle.mt_machine.specs.Machine.{machine, step, IsReady};
 ghost use Rattle.mt_replay.specs.Inner.Runs.{outputs};
 ghost use Rattle.mt_replay.specs.Inner.Soaks.{entered, with_line, HasRoom, IsLittleMore, Adds, Sums};
 ghost use Rattle.mt_replay.specs.Replay.{SoakGives, IsLeftFree};
 
-use crate::event::perform;
 use crate::job::{power_up, tell};
-use crate::modules::Modules;
+use mt_machine::{Modules, perform};
 use crate::status::Status;
 use crate::text::summary_text;
 use mt_fls::running_calls_keep_the_board as fls_keeps_the_board;

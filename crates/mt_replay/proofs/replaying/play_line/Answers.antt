@@ -1,9 +1,9 @@
 use Rattle.std.proofs.Common.{◌∷◌, ◌++◌, [], ◌∙◌, ap, sym, subst, List}
 use Rattle.mt_window.specs.declared.log.Entry.{Entry}
 use Rattle.mt_window.specs.declared.log.Entry.TheVariants.{Own}
-use Rattle.mt_replay.specs.Inner.Events.{Steps}
-use Rattle.mt_replay.specs.Machine.{Machine, machine}
-use Rattle.mt_replay.proofs.Defects.{boards_stay, step-defect}
+use Rattle.mt_machine.specs.Inner.Events.{Steps}
+use Rattle.mt_machine.specs.Machine.{Machine, machine}
+use Rattle.mt_laws.proofs.Defects.{boards_stay, step-defect}
 use Rattle.mt_replay.proofs.Traces.{played_one, played_none}
 use Rattle.mt_replay.proofs.replaying.play_line.Goals as goal
 

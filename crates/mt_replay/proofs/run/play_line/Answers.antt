@@ -1,8 +1,8 @@
 use Rattle.std.proofs.Common.{◌∙◌, ap, sym}
 use Rattle.std.proofs.lemmas.Result.{on_ok_weaker, on_err_weaker}
 use Rattle.mt_port.specs.Inner.Streams.{Appends-nil}
-use Rattle.mt_replay.specs.Machine.{Machine, machine}
-use Rattle.mt_replay.proofs.Defects.{boards_stay, step-defect}
+use Rattle.mt_machine.specs.Machine.{Machine, machine}
+use Rattle.mt_laws.proofs.Defects.{boards_stay, step-defect}
 use Rattle.mt_replay.proofs.Turns.{played_line, played_front, silent_line}
 use Rattle.mt_replay.proofs.run.play_line.Goals as goal
 

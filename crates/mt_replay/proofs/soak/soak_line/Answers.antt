@@ -1,6 +1,6 @@
 use Rattle.std.proofs.Common.{◌∙◌, ap}
-use Rattle.mt_replay.specs.Machine.{Machine, machine}
-use Rattle.mt_replay.proofs.Defects.{boards_stay, step-defect}
+use Rattle.mt_machine.specs.Machine.{Machine, machine}
+use Rattle.mt_laws.proofs.Defects.{boards_stay, step-defect}
 use Rattle.mt_replay.proofs.Soaks.{answered_adds}
 use Rattle.mt_replay.proofs.soak.soak_line.Goals as goal
 
