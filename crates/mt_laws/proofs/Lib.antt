@@ -1,4 +1,3 @@
-mod Defects
 mod Latencies
 mod Pieces
 mod Phases

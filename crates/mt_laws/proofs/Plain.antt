@@ -30,7 +30,7 @@ use Rattle.mt_machine.specs.declared.driven.FlsRunning.{FlsRunning}
 use Rattle.mt_machine.specs.declared.driven.FlsRunning.TheVariants as fls_calls
 use Rattle.mt_machine.specs.Machine.{Machine, Step, with_ram, events_of, begun, running, by_service, running_call, service_of, by_fls_service, fls_running_call, fls_service_of, by_event, step, started, played, played_by, stepped, Play}
 use Rattle.mt_laws.specs.Plain.{plain_running, plain_call, plain_event, plain_step, InjectsNothing, TestsLeaveNoTrace}
-use Rattle.mt_laws.proofs.Defects.{BoardsStay}
+use Rattle.mt_machine.specs.Laws.{BoardsStay}
 use Rattle.mt_laws.proofs.SoundBoards.{settings_left}
 
 -- what is known of the running calls of RamTst, and of both modules' calls

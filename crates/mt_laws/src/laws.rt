@@ -8,12 +8,10 @@ ghost use Rattle.mt_laws.specs.Plain.{TestsLeaveNoTrace};
 use mt_blocks::{groups_take_a_tick, passes_begin, passes_go_on};
 use mt_cover::{attempts_detect, attempts_stay_sound};
 use mt_fault::{memory_stays_sound, placement_is_tested, sound_memory_comes_and_goes};
-use mt_fls::{
-    running_calls_keep_the_board as fls_keeps_the_board, waits_of_running_calls as fls_waits,
-};
+use mt_fls::waits_of_running_calls as fls_waits;
+use mt_machine::lines_keep_the_board;
 use mt_ram::{
-    accepted_sets_are_sound, running_calls_keep_the_board as ram_keeps_the_board,
-    running_calls_leave_setting, services_leave_setting,
+    accepted_sets_are_sound, running_calls_leave_setting, services_leave_setting,
     tests_leave_no_trace as ram_leaves_no_trace, waits_of_running_calls as ram_waits,
 };
 use mt_seq::attempts_on_sound_memory;
@@ -35,8 +33,7 @@ pub fn tests_leave_no_trace()
     ram_leaves_no_trace();
     services_leave_setting();
     running_calls_leave_setting();
-    ram_keeps_the_board();
-    fls_keeps_the_board();
+    lines_keep_the_board();
 }
 
 /// On sound memory each answer of the application is that of a plain memory on which its operations are done in the order of
@@ -47,8 +44,7 @@ pub fn memory_is_plain()
     ram_leaves_no_trace();
     services_leave_setting();
     running_calls_leave_setting();
-    ram_keeps_the_board();
-    fls_keeps_the_board();
+    lines_keep_the_board();
     attempts_on_sound_memory();
 }
 

@@ -6,8 +6,10 @@
 
 mod driven;
 mod event;
+mod laws;
 mod modules;
 
 pub use driven::{Called, Driven, FlsRunning, Running};
 pub use event::perform;
+pub use laws::lines_keep_the_board;
 pub use modules::Modules;

@@ -1,5 +1,5 @@
 -- The ticks that are told are the fewest.
-use Rattle.std.proofs.Common.{ℕ, ◌≡◌, ◌++◌, Option, Some, None, sym, ap, ◌∙◌}
+use Rattle.std.proofs.Common.{ℕ, ◌≡◌, ◌++◌, Option, None, sym, ap, ◌∙◌}
 use Rattle.mt_fault.specs.declared.fault.Fault.{Fault}
 use Rattle.mt_blocks.specs.declared.config.ParamSet.{ParamSet}
 use Rattle.mt_cut.specs.Holds.{pass_holds}

@@ -1,6 +1,6 @@
 -- What is promised of each replay follows from the laws of machines.
-use Rattle.std.proofs.Common.{ℕ, ◌≡◌, ◌+◌, ◌-◌, Bool, true, false, cond, List, [], ◌∷◌, ◌++◌, length, All, Option, Some, None, Result, Ok, Err, refl, sym, ap, ◌∙◌, subst, arith}
-use Rattle.std.specs.Prelude.{nat_lt, nat_le, slice_get}
+use Rattle.std.proofs.Common.{ℕ, ◌≡◌, ◌+◌, ◌-◌, Bool, true, false, cond, List, [], ◌∷◌, ◌++◌, length, All, Option, Result, Ok, Err, refl, sym, ap, ◌∙◌, subst}
+use Rattle.std.specs.Prelude.{nat_lt, nat_le}
 use Rattle.std.specs.Str.{bytes_eq}
 use Rattle.std.proofs.lemmas.List.Elements.{All-nil, All-cons}
 use Rattle.mt_fault.specs.declared.fault.Fault.{Fault}
@@ -15,7 +15,7 @@ use Rattle.mt_conf.specs.Outcome.{outcome as config_of}
 use Rattle.mt_conf.specs.Laws.{AcceptedIsTaken}
 use Rattle.mt_gen.specs.Config.{job_config}
 use Rattle.mt_gen.specs.Script.{job_shape, script}
-use Rattle.mt_machine.specs.Machine.{Machine, Step, Play, started, played}
+use Rattle.mt_machine.specs.Machine.{Machine, Step, started, played}
 use Rattle.mt_laws.specs.Latency.{ServesInTime, RequestsAreServedInTime}
 use Rattle.mt_laws.specs.Plain.{TestsLeaveNoTrace}
 use Rattle.mt_laws.specs.Memory.{ArePlain, MemoryIsPlain}
@@ -27,13 +27,12 @@ use Rattle.mt_replay.specs.declared.run.End.{End}
 use Rattle.mt_replay.specs.declared.run.End.TheVariants as end
 use Rattle.mt_replay.specs.declared.status.Status.TheVariants as status
 use Rattle.mt_replay.specs.Input.{Ending, Finished, Failed, Cut, Job, Parted, Whole, job_of, separator}
-use Rattle.mt_replay.specs.Script.{script_from}
 use Rattle.mt_replay.specs.Outcome.{Outcome, play_of, said, read_fault_text, bad_config, configured, by_job, judged_job, outcome}
 use Rattle.mt_replay.specs.Soak.{soaked}
 use Rattle.mt_verify.specs.Lines.{first_other_line}
 use Rattle.mt_replay.specs.Locating.{◌>>=◌}
 use Rattle.mt_replay.specs.Verify.{Claim, claimed, claimed_from, last_claimed, claim_gives, compared, is_front, is_too_long, judged_by, line_said, replayed, script_limit, spelled, telling, uncut, verifying, verifying_by}
-use Rattle.mt_replay.specs.Promises.{IsJob, IsSoundReplay, AreServedInTime, LeavesNoTrace, FindsFaults, lines_of}
+use Rattle.mt_replay.specs.Promises.{IsJob, AreServedInTime, LeavesNoTrace, FindsFaults, lines_of}
 use Rattle.mt_replay.proofs.Accepted.{small}
 use Rattle.mt_replay.proofs.Fixed.{config_accepted}
 use Rattle.mt_replay.proofs.Taken.{ReadingLaws, AreTaken, lines-taken, read_accepted}
@@ -147,15 +146,17 @@ join_claims shape (Ok line) (Ok claim) h all = All-cons (IsAccepted shape) line 
 join_claims shape (Ok line) (Err e) h all = tt
 join_claims shape (Err e) q h all = tt
 
+-- what is claimed from a line on
+claims_at : (shape : Shape) (text : List ℕ) (given : List ℕ) (r : Result Line End) (q : Result Claim End) (parts : Bool) → LineClaims shape r → Claims shape q
+    → Claims shape (cond parts (Ok (record { lines = []; given = given })) (r >>= (λ line. q >>= (λ claim. Ok (record { lines = line ∷ claim.lines; given = claim.given })))))
+claims_at shape text given r q true h all = All-nil (IsAccepted shape)
+claims_at shape text given r q false h all = join_claims shape r q h all
+
 claims_from : ReadingLaws → (shape : Shape) (ending : Ending) (number size : ℕ) (lines : List (List ℕ)) (rest : List ℕ) → Claims shape (claimed_from shape ending number size lines rest)
 claims_from laws shape ending number size [] rest = last_claims shape ending number size rest
-claims_from laws shape ending number size (text ∷ more) rest = of (bytes_eq text separator)
-  where
-    of : (parts : Bool) → Claims shape (cond parts (Ok (record { lines = []; given = uncut more rest })) (line_said shape number size (length text + 1) text
-        >>= (λ line. claimed_from shape ending (number + 1) (size + (length text + 1)) more rest >>= (λ claim. Ok (record { lines = line ∷ claim.lines; given = claim.given })))))
-    of true = All-nil (IsAccepted shape)
-    of false = join_claims shape (line_said shape number size (length text + 1) text) (claimed_from shape ending (number + 1) (size + (length text + 1)) more rest)
-        (line_claims laws shape number size (length text + 1) text) (claims_from laws shape ending (number + 1) (size + (length text + 1)) more rest)
+claims_from laws shape ending number size (text ∷ more) rest =
+    claims_at shape text (uncut more rest) (line_said shape number size (length text + 1) text) (claimed_from shape ending (number + 1) (size + (length text + 1)) more rest) (bytes_eq text separator)
+    (line_claims laws shape number size (length text + 1) text) (claims_from laws shape ending (number + 1) (size + (length text + 1)) more rest)
 
 compared_steps : (ending : Ending) (replay : Outcome) (given : List ℕ) → (compared ending replay given).steps ≡ replay.steps
 compared_steps Finished replay given = refl
@@ -194,8 +195,10 @@ leaves_no_trace steps memory taken defect = record {
 }
 
 pub finds_faults : PassesFindFaults → AcceptedIsTaken → ReadingLaws → (defect : Option Fault) → FindsFaults defect
-finds_faults law taken reading defect ending bytes c script is before lines behind split fault p catch u =
-    let same : (outcome forms.Run ending defect bytes).steps ≡ (played (started c defect) (before ++ lines ++ behind)).steps =
-    job_steps defect ending bytes c script is ∙ ap (λ (l : List Line). (played (started c defect) l).steps) split in
-    subst (λ (l : List Step). IsNotOkBehind l (length (before ++ lines)) p.place.block) (sym same)
-    (law c defect before lines behind (config_accepted taken is.text c is.accepted) (subst (All (IsAccepted c.shape)) split (lines_accepted reading c ending script)) fault p catch u)
+finds_faults law taken reading defect = record {
+  jobs = λ ending bytes c script is before lines behind split fault p catch u.
+      let same : (outcome forms.Run ending defect bytes).steps ≡ (played (started c defect) (before ++ lines ++ behind)).steps =
+      job_steps defect ending bytes c script is ∙ ap (λ (l : List Line). (played (started c defect) l).steps) split in
+      subst (λ (l : List Step). IsNotOkBehind l (length (before ++ lines)) p.place.block) (sym same)
+      (law c defect before lines behind (config_accepted taken is.text c is.accepted) (subst (All (IsAccepted c.shape)) split (lines_accepted reading c ending script)) fault p catch u);
+}

@@ -23,7 +23,7 @@ use Rattle.mt_replay.specs.declared.run.End.TheVariants as end
 use Rattle.mt_replay.specs.declared.status.Status.{Status}
 use Rattle.mt_replay.specs.declared.status.Status.TheVariants as status
 use Rattle.mt_replay.specs.Input.{Ending, Finished, Failed, Cut, Job, Parted, Whole, job_of}
-use Rattle.mt_machine.specs.Machine.{Machine, Step, step, started}
+use Rattle.mt_machine.specs.Machine.{Machine, Step, Play, played, started}
 use Rattle.mt_replay.specs.Script.{Script, script_from}
 use Rattle.mt_replay.specs.Cut.{chosen_text}
 

@@ -16,7 +16,7 @@ use Rattle.mt_replay.specs.declared.form.Form.{Form}
 use Rattle.mt_replay.specs.declared.form.Form.TheVariants as forms
 use Rattle.mt_replay.specs.Input.{Ending, Cut, Parted, job_of}
 use Rattle.mt_replay.specs.Script.{Script, script_from}
-use Rattle.mt_replay.specs.Outcome.{Outcome, outcome, scripted, steps_text, end_text}
+use Rattle.mt_replay.specs.Outcome.{outcome, scripted, steps_text, end_text}
 use Rattle.mt_replay.specs.Soak.{soaked}
 use Rattle.mt_replay.specs.Ticks.{TicksAreLeast}
 use Rattle.mt_replay.specs.Verify.{verifying}
@@ -57,13 +57,12 @@ pub record LeavesNoTrace (defect : Option Fault) : Type 0 where
       → ArePlain (started c defect) (lines_of c ending script) (outcome forms.Run ending defect bytes).steps
 
 -- Where a pass of a replay runs undisturbed over a fault that its algorithm catches, the block of its slice is NOT_OK behind it.
-abbrev pub FindsFaults : Option Fault → Type 0
-FindsFaults defect =
-    (ending : Ending) (bytes : List ℕ) (c : Config) (script : Cut) → IsJob ending bytes c script
-    → (before lines behind : List Line) → lines_of c ending script ≡ before ++ lines ++ behind
-    → (fault : Fault) (p : Piece) → IsCaught (set_of (played (started c defect) before).after.modules.ram) p fault
-    → IsUndisturbedPass fault (played (started c defect) before).after lines
-    → IsNotOkBehind (outcome forms.Run ending defect bytes).steps (length (before ++ lines)) p.place.block
+pub record FindsFaults (defect : Option Fault) : Type 0 where
+  pub jobs : (ending : Ending) (bytes : List ℕ) (c : Config) (script : Cut) → IsJob ending bytes c script
+      → (before lines behind : List Line) → lines_of c ending script ≡ before ++ lines ++ behind
+      → (fault : Fault) (p : Piece) → IsCaught (set_of (played (started c defect) before).after.modules.ram) p fault
+      → IsUndisturbedPass fault (played (started c defect) before).after lines
+      → IsNotOkBehind (outcome forms.Run ending defect bytes).steps (length (before ++ lines)) p.place.block
 
 -- Whatever cuts of a set are asked for, no cut under the budget has fewer ticks than are told.
 abbrev pub TellsLeastTicks : Option Fault → Type 0

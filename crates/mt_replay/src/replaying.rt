@@ -18,12 +18,10 @@ ghost use Rattle.mt_replay.specs.Inner.Replaying.{Played, IsScript, PlayedWhole,
 use crate::comparing::Comparison;
 use crate::form::Form;
 use crate::input::{Input, LineText};
-use mt_machine::{Modules, perform};
 use crate::text::done_text;
 use arrayvec::ArrayVec;
-use mt_fls::running_calls_keep_the_board as fls_keeps_the_board;
+use mt_machine::{Modules, lines_keep_the_board, perform};
 use mt_port::{Bench, PlainSource, Shape, Source};
-use mt_ram::running_calls_keep_the_board as ram_keeps_the_board;
 use mt_text::{Line, entry_text, trace_lines_stand_in_order};
 use mt_window::{Entry, EventLog, Reply};
 use mt_word::Width;
@@ -118,8 +116,7 @@ pub(crate) fn play_line<S: Source, B: Bench>(
     ensures drained { IsDrained comparison.old input.old → IsDrained comparison.new input.new }
     ensures few { comparison.new.tally ≤ comparison.old.tally + 257 }
 {
-    ram_keeps_the_board();
-    fls_keeps_the_board();
+    lines_keep_the_board();
     sheet.log.clear();
     match perform(modules, board, &mut sheet.line, &mut sheet.log) {
         None => {}

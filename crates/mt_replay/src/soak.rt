@@ -10,16 +10,15 @@ ghost use Rattle.mt_replay.specs.Inner.Soaks.{entered, with_line, HasRoom, IsLit
 ghost use Rattle.mt_replay.specs.Replay.{SoakGives, IsLeftFree};
 
 use crate::job::{power_up, tell};
-use mt_machine::{Modules, perform};
 use crate::status::Status;
 use crate::text::summary_text;
-use mt_fls::running_calls_keep_the_board as fls_keeps_the_board;
 use mt_gen::{
     ScriptLines, Summary, job_config, lines_are_of_forms, scripts_are_accepted,
     scripts_have_20000_lines, summaries_are_sums,
 };
+use mt_machine::{Modules, lines_keep_the_board, perform};
 use mt_port::{Bench, Sink};
-use mt_ram::{Ram, State, running_calls_keep_the_board as ram_keeps_the_board};
+use mt_ram::{Ram, State};
 use mt_text::Line;
 use mt_window::{Entry, EventLog, Reply, TestResult, Value};
 use std::alloc::Global;
@@ -58,8 +57,7 @@ fn soak_line<B: Bench>(
     ensures little { IsLittleMore summary.old summary.new }
     ensures defect { (B.state board.new).defect ≡ (B.state board.old).defect }
 {
-    ram_keeps_the_board();
-    fls_keeps_the_board();
+    lines_keep_the_board();
     log.clear();
     let reply = perform(modules, board, line, log);
     add_line(summary, log.entries(), reply);

@@ -19,12 +19,8 @@ use Rattle.mt_machine.specs.declared.driven.Running.{Running}
 use Rattle.mt_machine.specs.declared.driven.Running.TheVariants as rams
 use Rattle.mt_machine.specs.declared.driven.FlsRunning.{FlsRunning}
 use Rattle.mt_machine.specs.declared.driven.FlsRunning.TheVariants as fls_calls
+use Rattle.mt_machine.specs.Laws.{BoardsStay}
 use Rattle.mt_machine.specs.Machine.{Machine, Step, events_of, fls_events_of, begun, replied, on_board, by_service, running_call, service_of, by_fls_service, fls_running_call, fls_service_of, by_event, step}
-
--- what is known of the running calls
-pub record BoardsStay : Type 0 where
-  pub ram : (call : Running) → KeepsBoard (events_of call)
-  pub fls : (call : FlsRunning) → KeepsBoard (fls_events_of call)
 
 pub boards_stay : KeepsBoard ticking → KeepsBoard full_test → PartialTestsKeepTheBoard → KeepsBoard fls_event.ticking → ForegroundTestsKeepTheBoard → BoardsStay
 boards_stay tick full partial fls_tick foreground = record { ram = of_ram; fls = of_fls }
