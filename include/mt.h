@@ -35,8 +35,13 @@
 /* How many bytes a test has. */
 #define MT_TEST_SIZE 1008
 
-/* The words are as they were after the test, or hold the fill. */
-enum mt_policy { MT_KEEP_WORDS = 0, MT_FILL_WORDS = 1 };
+/* The version of this header. It changes when a layout, a number or a call changes. */
+#define MT_VERSION_MAJOR 1U
+#define MT_VERSION_MINOR 1U
+
+/* The policies: the words are as they were after the test, or hold the fill. */
+#define MT_KEEP_WORDS 0U
+#define MT_FILL_WORDS 1U
 
 /* What a test is to be. */
 struct mt_settings {
@@ -71,6 +76,7 @@ struct mt_refusal {
     uint32_t place;
 };
 
+static_assert(sizeof(size_t) == 8, "the length of a text has 64 bits");
 static_assert(sizeof(struct mt_settings) == 32, "the layout of mt_settings");
 static_assert(sizeof(struct mt_test) == MT_TEST_SIZE, "the layout of mt_test");
 static_assert(offsetof(struct mt_test, text) == 48, "the layout of mt_test");
@@ -78,35 +84,31 @@ static_assert(offsetof(struct mt_test, saved) == 496, "the layout of mt_test");
 static_assert(sizeof(struct mt_access) == 16, "the layout of mt_access");
 static_assert(sizeof(struct mt_refusal) == 8, "the layout of mt_refusal");
 
-/* The rules of a set-up. Of several that are broken the first is told. */
-enum mt_rule {
-    MT_SET_UP = 0,              /* none is broken */
-    MT_BAD_WIDTH = 1,           /* the width is none of 8, 16, 32 and 64 */
-    MT_BAD_POLICY = 2,          /* the policy is none of the two */
-    MT_BAD_COUNT = 3,           /* no word, or more than MT_WORDS */
-    MT_BAD_ADDRESSES = 4,       /* first + count is 2^32 or more */
-    MT_BAD_BACKGROUND = 5,      /* the background is no word of the width */
-    MT_BAD_FILL = 6,            /* the fill is no word of the width, whatever the policy is */
-    MT_LONG_TEXT = 7,           /* the text has more than MT_TEXT bytes */
-    MT_TRANSPARENT_FILL = 8,    /* transparent-galpat with MT_FILL_WORDS */
-    MT_MARCH_SPELLING = 9,      /* the text is no name, and no march */
-    MT_MARCH_TOO_LONG = 10,     /* more than 16 elements, or 8 operations in one */
-    MT_MARCH_READS_FIRST = 11,  /* a read comes before the first write */
-    MT_MARCH_EXPECTATION = 12,  /* a read expects what the last write did not write */
-    MT_MARCH_ONE_VALUE = 13     /* no read expects 0, or none expects 1 */
-};
+/* The rules of a set-up. Of several that are broken the one with the least number is told. */
+#define MT_SET_UP 0U             /* none is broken */
+#define MT_BAD_WIDTH 1U          /* the width is none of 8, 16, 32 and 64 */
+#define MT_BAD_POLICY 2U         /* the policy is none of the two */
+#define MT_BAD_COUNT 3U          /* no word, or more than MT_WORDS */
+#define MT_BAD_ADDRESSES 4U      /* first + count is 2^32 or more */
+#define MT_BAD_BACKGROUND 5U     /* the background is no word of the width */
+#define MT_BAD_FILL 6U           /* the fill is no word of the width, whatever the policy is */
+#define MT_LONG_TEXT 7U          /* the text has more than MT_TEXT bytes */
+#define MT_TRANSPARENT_FILL 8U   /* transparent-galpat with MT_FILL_WORDS */
+#define MT_MARCH_SPELLING 9U     /* the text is no name, and no march */
+#define MT_MARCH_TOO_LONG 10U    /* more than 16 elements, or 8 operations in one */
+#define MT_MARCH_READS_FIRST 11U /* a read comes before the first write */
+#define MT_MARCH_EXPECTATION 12U /* a read expects what the last write did not write */
+#define MT_MARCH_ONE_VALUE 13U   /* no read expects 0, or none expects 1 */
 
 /* What the calls reply. */
-enum mt_reply {
-    MT_READ = 1,       /* read the word at access.address, and tell it */
-    MT_WRITE = 2,      /* write access.word to access.address; the answer is not looked at */
-    MT_PASS = 3,       /* it has ended: each checked read answered its word */
-    MT_FAIL = 4,       /* it has ended: a checked read answered another word */
-    MT_BROKEN_OFF = 5, /* it was broken off, and the words are back */
-    MT_NO_WORD = 6,    /* the answer is no word of the width; the access is still due */
-    MT_TOO_LATE = 7,   /* it cannot be broken off; it goes on as it was */
-    MT_SPOILT = 8      /* the state is none of a test; it was left as it was */
-};
+#define MT_READ 1U       /* read the word at access.address, and tell it */
+#define MT_WRITE 2U      /* write access.word to access.address; the answer is not looked at */
+#define MT_PASS 3U       /* it has ended: each checked read answered its word */
+#define MT_FAIL 4U       /* it has ended, or was broken off: a checked read answered another word */
+#define MT_BROKEN_OFF 5U /* it was broken off: no checked read before had answered another word */
+#define MT_NO_WORD 6U    /* the answer is no word of the width; the access is still due */
+#define MT_TOO_LATE 7U   /* it cannot be broken off; it goes on as it was */
+#define MT_SPOILT 8U     /* the state is none of a test; it was left as it was */
 
 #ifdef __cplusplus
 extern "C" {
@@ -128,8 +130,9 @@ uint32_t mt_next(struct mt_test *test, uint64_t answer, struct mt_access *access
 uint32_t mt_may_break_off(const struct mt_test *test);
 
 /*
- * Breaks the test off, and tells the first of the writes of the saved words, or MT_BROKEN_OFF where nothing was written yet.
- * `mt_next` tells the others. A test that was broken off is set up anew to be tried again.
+ * Breaks the test off, and tells the first of the writes of the saved words, or MT_BROKEN_OFF if nothing was written yet.
+ * `mt_next` tells the others, and then MT_FAIL if a checked read had answered another word, else MT_BROKEN_OFF. The caller
+ * makes these writes: no reply says that the memory took them. A test that was broken off is set up anew to be tried again.
  */
 uint32_t mt_break_off(struct mt_test *test, struct mt_access *access);
 

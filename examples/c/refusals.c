@@ -13,6 +13,11 @@ struct row {
 
 static const struct row rows[] = {
     {"a march", {32, 0, 0, 8, 0, 0}, "{*(w0); u(r0,w1); d(r1,w0)}", MT_SET_UP, 0},
+    {"words of 8 bits", {8, MT_KEEP_WORDS, 0, 8, 255, 0}, "checkerboard", MT_SET_UP, 0},
+    {"words of 16 bits", {16, MT_KEEP_WORDS, 0, 8, 65535, 0}, "walk-path", MT_SET_UP, 0},
+    {"words of 32 bits", {32, MT_FILL_WORDS, 0, 8, 4294967295u, 0}, "march-c-minus", MT_SET_UP, 0},
+    {"words of 64 bits", {64, MT_FILL_WORDS, 0, 8, UINT64_MAX, 0}, "mats-plus", MT_SET_UP, 0},
+    {"transparent Galpat", {32, MT_KEEP_WORDS, 0, 8, 0, 0}, "transparent-galpat", MT_SET_UP, 0},
     {"one word", {8, 0, 0, 1, 255, 255}, "checkerboard", MT_SET_UP, 0},
     {"64 words up to the last address", {64, 1, 4294967231u, 64, UINT64_MAX, UINT64_MAX}, "galpat", MT_SET_UP, 0},
     {"a width of 24", {24, 0, 0, 8, 0, 0}, "galpat", MT_BAD_WIDTH, 0},
@@ -98,11 +103,26 @@ static void answers(void) {
     expect("broken off once", mt_break_off(&test, &access) == MT_TOO_LATE && mt_due(&test, &access) == MT_BROKEN_OFF);
 }
 
+/* A difference that was seen is reported, though the test is then broken off. */
+static void seen_difference(void) {
+    struct mt_settings settings = {.width = 8, .first = 4, .count = 2};
+    struct mt_test test = {0};
+    struct mt_access access = {0};
+    expect("set up", mt_set_up(&test, &settings, "checkerboard", 12).rule == MT_SET_UP);
+    expect("the words are saved", mt_next(&test, 7, &access) == MT_READ && mt_next(&test, 9, &access) == MT_WRITE);
+    expect("0 and ff are written", mt_next(&test, 0, &access) == MT_WRITE && mt_next(&test, 0, &access) == MT_READ);
+    expect("1 is read, and not 0", mt_next(&test, 1, &access) == MT_READ && access.address == 5);
+    expect("broken off", mt_break_off(&test, &access) == MT_WRITE && access.address == 4 && access.word == 7);
+    expect("the second word", mt_next(&test, 0, &access) == MT_WRITE && access.address == 5 && access.word == 9);
+    expect("the difference", mt_next(&test, 0, &access) == MT_FAIL && mt_due(&test, &access) == MT_FAIL);
+}
+
 int main(void) {
     set_ups();
     long_text();
     spoilt();
     answers();
+    seen_difference();
     printf("%zu set-ups, %d not as expected\n", sizeof rows / sizeof rows[0], failures);
     return failures != 0;
 }

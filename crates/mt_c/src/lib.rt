@@ -12,10 +12,12 @@ ghost use Rattle.mt_c.specs.Codes.{access_after, refusal_told, reply_number, rep
 ghost use Rattle.mt_c.specs.State.{bit, settings_of, testing_of, text_of, IsState};
 
 mod codes;
+mod laws;
 mod state;
 
 pub use codes::{MtAccess, MtRefusal};
 use codes::{Reply, accepted, refused, tell};
+pub use laws::the_least_rule_is_told;
 use mt_engine::{NoWord, Plan};
 pub use state::{MtSettings, MtTest};
 use state::{bit, read_test};

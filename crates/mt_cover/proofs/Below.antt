@@ -27,7 +27,7 @@ pub record HasSpots (f : Fault) (a v : ℕ) : Type 0 where
   pub vic : names f v ≡ true
   pub far : (x : ℕ) → x ≢ a → x ≢ v → names f x ≡ false
 
-itself : (a : ℕ) → (a == a) ≡ true
+pub itself : (a : ℕ) → (a == a) ≡ true
 itself a = eq-eqb a a refl
 
 or_true : (b : Bool) → (b || true) ≡ true

@@ -12,3 +12,5 @@ pub mod Further
 pub mod Indices
 pub mod Detection
 pub mod Writes
+pub mod Behaviours
+pub mod Missed

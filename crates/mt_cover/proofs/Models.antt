@@ -26,7 +26,7 @@ off a b n = ne_eqb a b (λ e. n (sym e))
 abbrev pub bit_after : Fault → List ℕ → History → Bool
 bit_after f words h = has_bit (stored_under f words h ((vic_of f).word)) ((vic_of f).bit)
 
-held_now : (words : List ℕ) (agg : Spot) (hold : Bool) (vic : Spot) (h : History) → same (asked words h agg) hold ≡ true → was_held words agg hold vic h ≡ true
+pub held_now : (words : List ℕ) (agg : Spot) (hold : Bool) (vic : Spot) (h : History) → same (asked words h agg) hold ≡ true → was_held words agg hold vic h ≡ true
 held_now words agg hold vic [] e = e
 held_now words agg hold vic (Read a ∷ h) e = or_left _ _ e
 held_now words agg hold vic (Write a x ∷ h) e = or_left _ _ e

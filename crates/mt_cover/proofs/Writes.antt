@@ -1,15 +1,14 @@
 -- What an attempt writes fits the words, so that it leaves the RAM sound.
-use Rattle.std.proofs.Common.{ℕ, zero, suc, ◌+◌, ◌^◌, ◌<◌, ◌≤◌, ◌≡◌, Bool, true, false, cond, List, [], ◌∷◌, ◌++◌, length, get_or, take, All, Option, Some, None, sym, subst, ◌∙◌, append-nil, arith}
+use Rattle.std.proofs.Common.{ℕ, zero, suc, ◌+◌, ◌^◌, ◌<◌, ◌≤◌, Bool, true, false, cond, List, [], ◌∷◌, ◌++◌, get_or, take, All, Option, Some, None, sym, subst, ◌∙◌, append-nil, arith}
 use Rattle.std.specs.Prelude.{slice_index, nat_lt}
 use Rattle.std.proofs.lemmas.List.Elements.{All-head, All-tail, All-nil, All-map, All-append, All-take}
 use Rattle.mt_word.specs.declared.Width.{Width}
 use Rattle.mt_word.specs.declared.Width.TheVariants.{W8, W16, W32, W64}
 use Rattle.mt_word.specs.Word.{width_bits, Fits}
-use Rattle.mt_fault.specs.declared.fault.Fault.{Fault}
 use Rattle.mt_fault.specs.History.{History}
-use Rattle.mt_fault.specs.Faulty.{answer, words_after}
+use Rattle.mt_fault.specs.Faulty.{answer}
 use Rattle.mt_fault.specs.Items.{Item, Look, Check, Store, access_of, history}
-use Rattle.mt_fault.specs.Memory.{Memory, IsSound, WritesFit}
+use Rattle.mt_fault.specs.Memory.{WritesFit}
 use Rattle.mt_fault.proofs.ItemLemmas.{history-cons}
 use Rattle.mt_plan.specs.declared.algorithm.Act.{Act}
 use Rattle.mt_plan.specs.declared.algorithm.Act.TheVariants.{WritePlain, WriteFlipped, ReadPlain, ReadFlipped}

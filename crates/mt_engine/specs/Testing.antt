@@ -71,9 +71,9 @@ set_up plan = record { width = plan.width; known = begun plan.job plan.slice; br
 abbrev pub is_over : Testing → Bool
 is_over t = (t.broken && nat_le t.known.made t.known.slice.n) || (t.known.made == sequence_hold t.known.job t.known.slice.n)
 
--- how it ends
+-- how it ends: a difference that was seen is reported, also where the test was broken off after it
 abbrev pub ending_of : Testing → Ending
-ending_of t = if t.broken then BrokenOff else (if t.known.differs then Fail else Pass)
+ending_of t = if t.known.differs then Fail else (if t.broken then BrokenOff else Pass)
 
 -- an access as it is asked for. Whoever makes a read is not told what it is to answer.
 abbrev pub asked : Option Item → Due

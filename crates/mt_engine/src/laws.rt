@@ -1,6 +1,6 @@
 //! Laws of tests, for any memory.
 
-ghost use Rattle.mt_engine.specs.Laws.{BrokenTestsPutTheWordsBack, TestsAskForTheSequence};
+ghost use Rattle.mt_engine.specs.Laws.{BrokenTestsPutTheWordsBack, MayBeBrokenOffBeforeTheWritesBack, SeenDifferencesAreReported, TestsAskForTheSequence};
 
 use mt_plan::lengths;
 use mt_seq::answers_make_the_sequence;
@@ -10,6 +10,16 @@ use mt_seq::answers_make_the_sequence;
 pub fn tests_ask_for_the_sequence()
     ensures asks { TestsAskForTheSequence }
     ensures back { BrokenTestsPutTheWordsBack }
+{
+    lengths();
+    answers_make_the_sequence();
+}
+
+/// A test may be broken off exactly while it keeps the words and the writes that put them back have not begun; and one that is
+/// broken off reports a difference that it has seen.
+pub fn tests_may_be_broken_off()
+    ensures may { MayBeBrokenOffBeforeTheWritesBack }
+    ensures seen { SeenDifferencesAreReported }
 {
     lengths();
     answers_make_the_sequence();

@@ -9,7 +9,7 @@ mod plan;
 mod settings;
 mod test;
 
-pub use laws::tests_ask_for_the_sequence;
+pub use laws::{tests_ask_for_the_sequence, tests_may_be_broken_off};
 pub use plan::Plan;
 pub use settings::{Refusal, Settings};
 pub use test::{Due, Ending, Moment, NoWord};

@@ -28,9 +28,12 @@ pub struct Moment {
 /// How a test ends.
 #[derive(Clone, Copy, Debug, PartialEq, Eq)]
 pub enum Ending {
+    /// Each checked read answered its word.
     Pass,
+    /// A checked read answered another word, also where the test was broken off after it.
     Fail,
-    /// It was broken off, and the words are back.
+    /// The test was broken off, and no checked read before had answered another word. The saved words were written back, if
+    /// any word had been written.
     BrokenOff,
 }
 
@@ -98,10 +101,10 @@ impl Moment {
     fn ending(self) -> Ending
         ensures { (plan : Plan) (places : List ℕ) → result ≡ ending_of (testing plan self places) }
     {
-        if self.broken {
-            Ending::BrokenOff
-        } else if self.differs {
+        if self.differs {
             Ending::Fail
+        } else if self.broken {
+            Ending::BrokenOff
         } else {
             Ending::Pass
         }

@@ -1,6 +1,6 @@
 //! The lines of a generated script, one after another.
 
-ghost use Rattle.std.specs.Prelude.{◌≡◌, ◌∷◌, [], MatchBool};
+ghost use Rattle.std.specs.Prelude.{◌≡◌, ◌∷◌, [], MatchBool, false};
 ghost use Rattle.mt_gen.specs.Script.{script};
 
 use crate::draw::{draw_first, draw_line};
@@ -39,10 +39,11 @@ impl ScriptLines {
         }
     }
 
-    /// Takes the next line, whatever the line at hand was. Answers whether there was one.
+    /// Takes the next line, whatever the line at hand was. Answers whether there was one. At the end it stays at the end.
     #[tactic(auto, unfolding(crate::specs::Script::lines_behind))]
     pub fn take(&mut self, line: &mut Line) -> bool
-        ensures { MatchBool result (self.old ≡ line.new ∷ self.new) (self.old ≡ []) }
+        ensures next { MatchBool result (self.old ≡ line.new ∷ self.new) (self.old ≡ []) }
+        ensures end { result ≡ false → self.new ≡ self.old }
     {
         if self.first < 3 {
             draw_first(line, self.first);

@@ -6,6 +6,7 @@ ghost use Rattle.mt_fault.specs.Items.{access_of};
 ghost use Rattle.mt_fault.specs.Memory.{Memory, after_access};
 ghost use Rattle.mt_fault.specs.Projection.{names};
 ghost use Rattle.mt_plan.specs.Accesses.{act_on};
+ghost use Rattle.mt_plan.specs.Plan.{steps_of};
 ghost use Rattle.mt_locate.specs.Probes.{IsAcceptedProbe, scratch_of};
 ghost use Rattle.mt_locate.specs.Moved.{IsFaultOfSlice};
 ghost use Rattle.mt_locate.specs.Misses.{misses_of, told_at, wrong_answer};
@@ -14,11 +15,12 @@ ghost use Rattle.mt_locate.specs.Explanations.{accesses_of, Explains};
 use crate::laws::faults_of_a_slice_stay_well_placed;
 use crate::moved::moved_down;
 use crate::probe::{Miss, Probe};
+use crate::schedule::Schedule;
 use mt_fault::{
     Cells, Fault, memory_without_a_fault_is_plain, other_words_do_not_matter, placement_is_tested,
     span_may_be_cut,
 };
-use mt_plan::{Act, Step, Steps, plans_are_steady, steps};
+use mt_plan::{Act, Step, plans_are_steady};
 use mt_word::{Width, flip};
 
 /// Makes one step on the word at an address; where it is a checked read that answered another word, it answers that one.
@@ -94,19 +96,26 @@ fn own_answer(
 }
 
 /// What the misses say of the access with an index, where so many of them are of accesses before it.
-fn told(misses: &[Miss], before: usize, index: u32) -> Option<u64>
+fn told(misses: &[Miss], before: usize, index: usize) -> Option<u64>
     ensures told { result ≡ told_at misses.now before index }
 {
     match misses.get(before) {
-        Some(miss) if miss.index == index => Some(miss.word),
+        Some(miss) if miss.index as usize == index => Some(miss.word),
         _ => None,
     }
 }
 
 /// Makes the accesses of a probe that are of the fault's own words, up to the first of which the misses say something else
 /// than it answered, and answers whether there is none. A read of another word is no miss.
-fn misses_exactly(cells: &mut Cells, probe: &Probe, misses: &[Miss], fault: Fault) -> bool
+fn misses_exactly(
+    cells: &mut Cells,
+    probe: &Probe,
+    steps: &[Step],
+    misses: &[Miss],
+    fault: Fault,
+) -> bool
     requires accepted { IsAcceptedProbe probe.now }
+    requires steps { steps.now ≡ steps_of probe.now.alg probe.now.n }
     requires width { cells.old.width ≡ probe.now.width }
     requires size { length cells.old.words ≡ probe.now.n }
     requires fault { cells.old.fault ≡ Some fault }
@@ -118,13 +127,10 @@ fn misses_exactly(cells: &mut Cells, probe: &Probe, misses: &[Miss], fault: Faul
     other_words_do_not_matter();
     plans_are_steady();
     let width = cells.width();
-    let n = u32::from(probe.n);
     let own = own_words(fault);
     let mut made = 0;
-    let mut cursor = Steps::new(&probe.alg, n);
-    for index in 0..steps(&probe.alg, n) {
-        let step = cursor.next(&probe.alg);
-        let wrong = own_answer(cells, own, width, probe.background, step);
+    for index in 0..steps.len() {
+        let wrong = own_answer(cells, own, width, probe.background, steps[index]);
         if wrong != told(misses, made, index) {
             return false;
         }
@@ -149,6 +155,33 @@ fn reset(cells: &mut Cells, probe: &Probe)
     }
 }
 
+/// Whether a fault explains the misses of a slice, by the steps of its probe.
+pub fn explains_by(
+    cells: &mut Cells,
+    probe: &Probe,
+    steps: &[Step],
+    misses: &[Miss],
+    fault: Fault,
+) -> bool
+    requires accepted { IsAcceptedProbe probe.now }
+    requires steps { steps.now ≡ steps_of probe.now.alg probe.now.n }
+    requires scratch { cells.old ≡ scratch_of probe.now }
+    requires inside { IsFaultOfSlice probe.now.width probe.now.first probe.now.n fault }
+    ensures exact { IsTrue result ↔ Explains probe.now misses.now fault }
+    ensures after { cells.new ≡ scratch_of probe.now }
+{
+    faults_of_a_slice_stay_well_placed();
+    placement_is_tested();
+    let moved = moved_down(probe, fault);
+    if cells.inject(moved).is_err() {
+        unreachable!()
+    }
+    let explained = misses_exactly(cells, probe, steps, misses, moved);
+    cells.heal();
+    reset(cells, probe);
+    explained
+}
+
 /// Whether a fault explains the misses of a slice: where it comes to the slice, each of its words `initial`, and the
 /// algorithm runs, exactly these checked reads answer another word, and these words.
 ///
@@ -161,14 +194,6 @@ pub fn explains(cells: &mut Cells, probe: &Probe, misses: &[Miss], fault: Fault)
     ensures exact { IsTrue result ↔ Explains probe.now misses.now fault }
     ensures after { cells.new ≡ scratch_of probe.now }
 {
-    faults_of_a_slice_stay_well_placed();
-    placement_is_tested();
-    let moved = moved_down(probe, fault);
-    if cells.inject(moved).is_err() {
-        unreachable!()
-    }
-    let explained = misses_exactly(cells, probe, misses, moved);
-    cells.heal();
-    reset(cells, probe);
-    explained
+    let schedule = Schedule::new(probe);
+    explains_by(cells, probe, schedule.steps(), misses, fault)
 }

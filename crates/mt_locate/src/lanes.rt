@@ -6,13 +6,12 @@ ghost use Rattle.std.specs.Prelude.{◌≡◌, ◌<◌, ◌≤◌, ◌||◌, ℕ
 ghost use mathlib.Core.Bool.{beq};
 ghost use Rattle.mt_word.specs.Word.{has_bit};
 ghost use Rattle.mt_fault.specs.Faulty.{same};
-ghost use Rattle.mt_plan.specs.Plan.{IsAccepted, steps_of};
 ghost use Rattle.mt_plan.specs.Lists.{is_write, is_flipped};
 ghost use Rattle.mt_decoder.specs.BitModel.{flipped_if, project, vic_other, vic_own};
 ghost use Rattle.mt_locate.specs.Lanes.{agg_at, begun, goes_unseen, rule_of, side_at, value_at, vic_at};
 ghost use Rattle.mt_locate.specs.Inner.Lanes.{GoesByRule, GoesOn};
 
-use mt_plan::{Act, Algorithm, Step, Steps, steps};
+use mt_plan::{Act, Step};
 
 /// How an aggressor disturbs its victim.
 #[derive(Clone, Copy)]
@@ -176,22 +175,18 @@ fn stepped(means: Means, lanes: Lanes, step: Step, agg: u32, vic: u32) -> Lanes
 }
 
 /// The lanes in which no read shows another bit than it expects, with the aggressor in one cell and the victim in another.
-pub fn unseen(alg: &Algorithm, n: u32, means: Means, agg: u32, vic: u32) -> u64
-    requires accepted { IsAccepted alg.now }
-    requires some { 1 ≤ n }
-    requires small { n ≤ 64 }
+pub fn unseen(steps: &[Step], means: Means, agg: u32, vic: u32) -> u64
     ensures { (l : ℕ) → l < 64
         → has_bit result l ≡ goes_unseen means (side_at l) (value_at l) (agg_at l) (vic_at l)
-        (project agg vic (steps_of alg.now n)) }
+        (project agg vic steps.now) }
 {
     let mut lanes = Lanes {
         agg: AGG_FIRST,
         vic: first_victims(means),
         wrong: 0,
     };
-    let mut cursor = Steps::new(alg, n);
-    for _index in 0..steps(alg, n) {
-        lanes = stepped(means, lanes, cursor.next(alg), agg, vic);
+    for step in steps {
+        lanes = stepped(means, lanes, *step, agg, vic);
         if lanes.wrong == u64::MAX {
             return 0;
         }

@@ -14,6 +14,7 @@ mod moved;
 mod page;
 mod probe;
 mod refusal;
+mod schedule;
 mod slice_line;
 mod stand_in;
 mod unseen;

@@ -4,6 +4,7 @@ ghost use Rattle.std.specs.Prelude.{◌≡◌, ◌<◌, ◌≤◌, ◌+◌, ◌*
 ghost use Rattle.std.specs.List.{AllByRecursion};
 ghost use Rattle.std.specs.Io.KnownBytes.{Appends};
 ghost use Rattle.mt_fault.specs.Placement.{IsWithin};
+ghost use Rattle.mt_plan.specs.Plan.{steps_of};
 ghost use Rattle.mt_port.specs.Causes.{HasCause};
 ghost use Rattle.mt_port.specs.Streams.{AppendsFront};
 ghost use Rattle.mt_locate.specs.Probes.{IsAcceptedProbe, scratch_of};
@@ -14,14 +15,16 @@ ghost use Rattle.mt_locate.specs.Inner.Listing.{change, IsReady, Lists, MayHaveT
 
 use crate::disturbance::to_disturbance;
 use crate::evidence::{Evidence, evidence_of, is_suspect};
-use crate::explain::explains;
+use crate::explain::explains_by;
 use crate::faults::{Few, bit_count, coupled, crossed, on_bit, spot_at};
 use crate::kinds::{Kind, kinds};
 use crate::laws::{bits_decide, culprits_are_suspects, first_miss_tells_what_is_seen};
 use crate::page::Page;
 use crate::probe::{Miss, Probe};
+use crate::schedule::Schedule;
 use crate::unseen::{Unseen, stays_unseen, tables};
 use mt_fault::{Cells, Fault};
+use mt_plan::Step;
 use mt_port::{Failed, Shape, Sink};
 use mt_word::fits;
 
@@ -29,6 +32,8 @@ use mt_word::fits;
 #[derive(Drop)]
 struct Syndrome<'a> {
     probe: &'a Probe,
+    /// The steps of the probe's algorithm.
+    steps: &'a [Step],
     misses: &'a [Miss],
     evidence: Evidence,
     /// Where there is no miss, the coupling faults that nothing shows.
@@ -36,12 +41,13 @@ struct Syndrome<'a> {
 }
 
 /// Where there is no miss, the coupling faults that nothing shows.
-fn tables_of(probe: &Probe, misses: &[Miss]) -> Option<Unseen>
-    requires { IsAcceptedProbe probe.now }
+fn tables_of(probe: &Probe, steps: &[Step], misses: &[Miss]) -> Option<Unseen>
+    requires accepted { IsAcceptedProbe probe.now }
+    requires steps { steps.now ≡ steps_of probe.now.alg probe.now.n }
     ensures { MayHaveTables probe.now misses.now result }
 {
     if misses.is_empty() {
-        return Some(tables(probe));
+        return Some(tables(probe, steps));
     }
     None
 }
@@ -134,7 +140,13 @@ fn is_explained(cells: &mut Cells, syndrome: &Syndrome<'_>, fault: Fault) -> boo
     }
     culprits_are_suspects();
     is_suspect(syndrome.probe.width, syndrome.evidence, fault)
-        && explains(cells, syndrome.probe, syndrome.misses, fault)
+        && explains_by(
+            cells,
+            syndrome.probe,
+            syndrome.steps,
+            syndrome.misses,
+            fault,
+        )
 }
 
 /// Lists a fault, where it explains the misses.
@@ -262,11 +274,14 @@ pub fn list_faults<K: Sink>(
     ensures cause { HasCause (K.faults sink.old) (K.faults sink.new) result }
     ensures after { cells.new ≡ scratch_of probe.now }
 {
+    let schedule = Schedule::new(probe);
+    let steps = schedule.steps();
     let syndrome = Syndrome {
         probe,
+        steps,
         misses,
         evidence: evidence_of(probe, misses),
-        unseen: tables_of(probe, misses),
+        unseen: tables_of(probe, steps, misses),
     };
     let mut page = Page::new();
     let found = list_kinds(cells, &syndrome, &mut page, sink)?;

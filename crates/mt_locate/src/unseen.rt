@@ -1,6 +1,7 @@
 //! Which coupling faults nothing shows.
 
 ghost use Rattle.std.specs.Prelude.{◌≡◌, ◌<◌};
+ghost use Rattle.mt_plan.specs.Plan.{steps_of};
 ghost use Rattle.mt_locate.specs.Probes.{IsAcceptedProbe};
 ghost use Rattle.mt_locate.specs.Moved.{IsFaultOfSlice};
 ghost use Rattle.mt_locate.specs.Lanes.{fault_of, lane, stays_unseen, treated};
@@ -10,6 +11,7 @@ use crate::disturbance::Disturbance;
 use crate::lanes::{Means, unseen};
 use crate::probe::Probe;
 use arrayvec::ArrayVec;
+use mt_plan::Step;
 use mt_word::bit;
 
 /// For each pair of cells the lanes that go unseen, aggressor after aggressor.
@@ -24,27 +26,29 @@ pub struct Unseen {
 }
 
 /// The table of one kind.
-fn table(probe: &Probe, means: Means) -> Table
-    requires { IsAcceptedProbe probe.now }
+fn table(probe: &Probe, steps: &[Step], means: Means) -> Table
+    requires accepted { IsAcceptedProbe probe.now }
+    requires steps { steps.now ≡ steps_of probe.now.alg probe.now.n }
     ensures { IsTable probe.now means result.items }
 {
     let n = u32::from(probe.n);
     let mut rows = ArrayVec::new();
     for k in 0..n * n {
-        rows.push(unseen(&probe.alg, n, means, k / n, k % n));
+        rows.push(unseen(steps, means, k / n, k % n));
     }
     rows
 }
 
 /// The tables of a probe.
-pub fn tables(probe: &Probe) -> Unseen
-    requires { IsAcceptedProbe probe.now }
+pub fn tables(probe: &Probe, steps: &[Step]) -> Unseen
+    requires accepted { IsAcceptedProbe probe.now }
+    requires steps { steps.now ≡ steps_of probe.now.alg probe.now.n }
     ensures { AreTables probe.now result }
 {
     Unseen {
-        invert: table(probe, Means::Invert),
-        force: table(probe, Means::Force),
-        state: table(probe, Means::State),
+        invert: table(probe, steps, Means::Invert),
+        force: table(probe, steps, Means::Force),
+        state: table(probe, steps, Means::State),
     }
 }
 

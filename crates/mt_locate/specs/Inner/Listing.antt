@@ -4,6 +4,7 @@ use Rattle.mt_word.specs.declared.Width.{Width}
 use Rattle.mt_word.specs.Word.{Fits, width_bits}
 use Rattle.mt_fault.specs.declared.fault.Fault.{Fault}
 use Rattle.mt_fault.specs.Rules.{vic_of}
+use Rattle.mt_plan.specs.Plan.{steps_of}
 use Rattle.mt_port.specs.declared.stream.Failed.{Failed}
 use Rattle.mt_port.specs.Causes.{HasCause}
 use Rattle.mt_port.specs.Gathering.{Gathers}
@@ -65,6 +66,7 @@ MayHaveTables probe misses (Some unseen) = (misses ≡ []) × AreTables probe un
 -- What holds of what the functions of a list are given.
 pub record IsReady (s : Syndrome) : Type 0 where
   pub accepted : IsAcceptedProbe s.probe.now
+  pub steps : s.steps.now ≡ steps_of s.probe.now.alg s.probe.now.n
   pub told : s.evidence ≡ evidence_of s.probe.now s.misses.now
   pub expected : ExpectedFits s.probe.now.width s.evidence
   pub tables : MayHaveTables s.probe.now s.misses.now s.unseen

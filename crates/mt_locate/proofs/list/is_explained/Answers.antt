@@ -35,7 +35,7 @@ pub returns-then-is_suspect-clause-explained : goal.returns-then-is_suspect-clau
 returns-then-is_suspect-clause-explained c =
     let probe = c.args.syndrome.now.probe.now in
     let misses = c.args.syndrome.now.misses.now in
-    test_is probe misses c.args.fault c.explains.result c.explains.ensures.exact
+    test_is probe misses c.args.fault c.explains_by.result c.explains_by.ensures.exact
 
 pub returns-else-is_suspect-clause-explained : goal.returns-else-is_suspect-clause-explained
 returns-else-is_suspect-clause-explained c =
