@@ -1,21 +1,18 @@
 -- What the rules find in the fields of a table.
-use Rattle.std.proofs.Common.{◌≡◌, ℕ, ℤ, pos, ◌≤◌, ◌<◌, Bool, true, false, List, [], ◌∷◌, length, Option, Some, None, refl, sym, ap, ◌∙◌, subst, inl, inr, suc, arith}
-use Rattle.std.specs.Prelude.{◌⊎◌, ◌&&◌, ◌||◌, not, codes, is_some, is_none, option_and_then, int_le, int_lt, nat_le, nat_lt}
+use Rattle.std.proofs.Common.{◌≡◌, ℕ, pos, ◌≤◌, ◌<◌, Bool, true, false, List, [], ◌∷◌, length, Option, Some, refl, sym, ap, ◌∙◌, subst, inl, inr, suc, arith}
+use Rattle.std.specs.Prelude.{◌&&◌, ◌||◌, not, codes, is_some, option_and_then, int_le, int_lt}
 use Rattle.std.specs.List.{list_all, list_any, AllByRecursion}
-use Rattle.std.proofs.lemmas.Bool.{le-leb, lt-ltb}
 use Rattle.std.proofs.lemmas.Bool.Decides.{nat_tests}
-use Rattle.toml.specs.Data.{Data, string, integer, array, table, Items, Members, as_integer, as_str, as_array, as_table, get_member}
+use Rattle.toml.specs.Data.{Data, string, integer, array, table, Members, as_array, get_member}
 use Rattle.mt_word.specs.declared.Width.{Width}
-use Rattle.mt_hex.specs.Hex.{word_of}
 use Rattle.mt_plan.specs.declared.algorithm.Algorithm.{Algorithm}
 use Rattle.mt_plan.specs.declared.algorithm.Algorithm.TheVariants.{Checkerboard, March as Marches, WalkPath, Galpat, TransparentGalpat}
 use Rattle.mt_blocks.specs.declared.config.FlsConfig.{FlsConfig}
 use Rattle.mt_conf.specs.declared.schema.Part.{Part}
 use Rattle.mt_conf.specs.declared.schema.Part.TheVariants.{Top}
-use Rattle.mt_conf.specs.declared.schema.Otherwise.{Otherwise}
-use Rattle.mt_conf.specs.declared.schema.Otherwise.TheVariants.{Number, ZeroBits, NoBlocks, NoFlashTest}
+use Rattle.mt_conf.specs.declared.schema.Otherwise.TheVariants.{NoFlashTest}
 use Rattle.mt_conf.specs.Schema.{is_refused, otherwise_of}
-use Rattle.mt_conf.specs.Lookup.{has_key, has_number, has_text, has_array, has_table, items_or, number_at, text_at, array_at, listed}
+use Rattle.mt_conf.specs.Lookup.{has_key, has_number, has_text, has_table, items_or, array_at, listed}
 use Rattle.mt_conf.specs.Rules.{has_tables, in_fls, in_option, in_table, no_word}
 use Rattle.mt_conf.specs.Fields.{HasNumber, HasName, HasWord, HasTables, HasMarch, AreTables, IsField, IsFls}
 use Rattle.mt_conf.specs.Outcome.{no_fls}

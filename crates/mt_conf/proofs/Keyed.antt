@@ -1,25 +1,25 @@
 -- The keys of a table that breaks no rule.
-use Rattle.std.proofs.Common.{◌≡◌, ℕ, Bool, true, false, List, [], ◌∷◌, Option, Some, None, refl, sym, ap, ◌∙◌, subst, inl, inr}
-use Rattle.std.specs.Prelude.{◌⊎◌, ◌||◌, not, codes}
+use Rattle.std.proofs.Common.{◌≡◌, ℕ, Bool, true, false, List, [], ◌∷◌, refl, sym, ap, ◌∙◌, subst, inl, inr}
+use Rattle.std.specs.Prelude.{◌||◌, not, codes}
 use Rattle.std.specs.List.{list_any}
 use Rattle.std.specs.Str.{bytes_eq}
 use Rattle.std.proofs.lemmas.Bool.{or_parts, or_cases}
 use Rattle.std.proofs.lemmas.Slice.Eq.{bytes_eq-Decides}
-use Rattle.toml.specs.Data.{Data, table, Members, no_members, member, get_member}
+use Rattle.toml.specs.Data.{Data, Members, no_members, member}
 use Rattle.mt_conf.specs.declared.schema.Part.{Part}
 use Rattle.mt_conf.specs.declared.schema.Part.TheVariants.{Top, Set, Block, Fls, FlashBlock}
 use Rattle.mt_conf.specs.declared.shape.KeyRule.TheVariants.{UnknownKey}
 use Rattle.mt_conf.specs.Lookup.{array_at}
 use Rattle.mt_conf.specs.Schema.{Row, rows_of}
 use Rattle.mt_conf.specs.Rules.{any_at, any_block, any_flash_block, any_in_set, any_in_fls, any_set, breaks, breaks_somewhere, has_unlisted_key, in_fls, in_option, in_table, is_listed, keys_of}
-use Rattle.mt_conf.specs.Outcome.{first_broken, rules_before_march, rules_of}
+use Rattle.mt_conf.specs.Outcome.{first_broken, rules_of}
 use Rattle.mt_conf.specs.Keys.{keys_in, HasOnly, IsAmong, OfTables, IsKeyedSet, IsKeyedFls, IsKeyed}
 use Rattle.mt_conf.specs.Laws.{AcceptedHasListedKeys}
 use Rattle.mt_conf.proofs.Least.{holds, none_by}
 use Rattle.mt_conf.proofs.Numbers.{not_false}
 
 -- the keys of rows
-abbrev row_keys : List Row → List (List ℕ)
+abbrev pub row_keys : List Row → List (List ℕ)
 row_keys [] = []
 row_keys (row ∷ rows) = row.key ∷ row_keys rows
 
@@ -31,7 +31,7 @@ among (row ∷ rows) key h =
       | inr later ↦ inr (among rows key later)
     ]
 
-rows_are : (part : Part) → row_keys (rows_of part) ≡ keys_in part
+pub rows_are : (part : Part) → row_keys (rows_of part) ≡ keys_in part
 rows_are Top = refl
 rows_are Set = refl
 rows_are Block = refl

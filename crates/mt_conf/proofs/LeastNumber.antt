@@ -1,5 +1,5 @@
 -- The refusal has the least number of those that are broken.
-use Rattle.std.proofs.Common.{◌≡◌, ℕ, suc, ◌+◌, ◌≤◌, Bool, true, false, List, [], ◌∷◌, Option, Some, None, refl, sym, ap, ◌∙◌, inl, inr, arith}
+use Rattle.std.proofs.Common.{◌≡◌, ℕ, ◌+◌, ◌≤◌, Bool, true, false, List, [], ◌∷◌, Option, Some, None, sym, ap, inl, inr, arith}
 use Rattle.std.specs.Prelude.{codes, option_map, if◌then◌else◌}
 use Rattle.toml.specs.Data.{Data, Members}
 use Rattle.mt_march.specs.declared.march.MarchRefusal.{MarchRefusal}
@@ -55,9 +55,34 @@ of_march i (d ∷ ds) e h =
 
 numbered : (t : Members) → Numbered 2 (rules_of t)
 unfolding refused_march
-numbered t =
-    (of_rule _ _, (of_rule _ _, (of_rule _ _, (of_rule _ _, (of_rule _ _, (of_rule _ _, (of_rule _ _, (of_rule _ _, (of_rule _ _,
-    (of_march 0 (array_at (codes "set") t), (of_rule _ _, (of_rule _ _, (of_rule _ _, (of_rule _ _, (of_rule _ _, (of_rule _ _, tt))))))))))))))))
+numbered t = (
+  of_rule _ _,
+  (
+    of_rule _ _,
+    (
+      of_rule _ _,
+      (
+        of_rule _ _,
+        (
+          of_rule _ _,
+          (
+            of_rule _ _,
+            (
+              of_rule _ _,
+              (
+                of_rule _ _,
+                (
+                  of_rule _ _,
+                  (of_march 0 (array_at (codes "set") t), (of_rule _ _, (of_rule _ _, (of_rule _ _, (of_rule _ _, (of_rule _ _, (of_rule _ _, tt))))))),
+                ),
+              ),
+            ),
+          ),
+        ),
+      ),
+    ),
+  ),
+)
 
 pub least_number : RefusalHasLeastNumber
 unfolding first_broken

@@ -17,4 +17,5 @@ pub mod Keyed
 pub mod Accepting
 pub mod AcceptedKeys
 pub mod AcceptedValues
+pub mod AcceptedMarches
 pub mod AcceptedSets

@@ -1,5 +1,5 @@
 -- Laws of readings.
-use Rattle.std.specs.Prelude.{◌≡◌, ◌≤◌, ◌⊎◌, ℕ, codes, List, [], ◌∷◌, ◌++◌, All, Option, Some, None}
+use Rattle.std.specs.Prelude.{◌≡◌, ◌≤◌, ◌⊎◌, codes, List, [], ◌∷◌, ◌++◌, All, Option, Some, None}
 use Rattle.toml.specs.Data.{Members, get_member}
 use Rattle.mt_conf.specs.declared.config.ConfigRefusal.{ConfigRefusal}
 use Rattle.mt_conf.specs.Lookup.{array_at}
