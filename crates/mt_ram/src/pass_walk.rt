@@ -144,7 +144,7 @@ impl Walk<Ram> for PassWalk {
         let at = self.at;
         self.at = callee.place_after(at);
         self.len -= 1;
-        callee.take_verdict(at, verdict);
+        callee.take_verdict(at, self.at, verdict);
     }
 
     fn leave(&self, _callee: &mut Ram) {}

@@ -7,7 +7,7 @@ ghost use Rattle.mt_seq.specs.Stepping.{job_of as framed};
 ghost use Rattle.mt_window.specs.Slices.{attempted};
 ghost use Rattle.mt_blocks.specs.Slices.{IsValid, next_in};
 ghost use Rattle.mt_ram.specs.State.{set_of, spans_in, piece_in};
-ghost use Rattle.mt_ram.specs.Event.{attempt_at, job_in, job_of, next_place, of_test, with_result, passed};
+ghost use Rattle.mt_ram.specs.Event.{attempt_at, job_in, job_of, next_place, with_result, passed};
 
 use crate::result::{keep_failed, next_result};
 use crate::state::{Ram, State};
@@ -91,34 +91,28 @@ impl Ram {
         next_of_test(set.blocks.as_slice(), set.atomic, at, whole)
     }
 
-    /// What the end of a slice of a full or partial test leaves.
-    pub(crate) fn take_result(&mut self, at: Position, verdict: Verdict, failed: bool)
+    /// What the end of a slice of a full or partial test leaves. Answers whether the slice was its block's last.
+    pub(crate) fn take_result(&mut self, at: Position, verdict: Verdict, failed: bool) -> bool
         requires { IsValid (set_of self.old).atomic (spans_in self.old) at }
-        ensures { self.new ≡ with_result self.old (piece_in self.old at) verdict failed }
+        ensures leaves { self.new ≡ with_result self.old (piece_in self.old at) verdict failed }
+        ensures last { result ≡ (piece_in self.old at).last }
     {
         let last = self.ends_block(at);
         let place = at.block as usize;
         self.results[place] = next_result(self.results[place], verdict, failed, last);
+        last
     }
 
-    /// Whether a slice of the test failed, after a slice.
-    pub(crate) fn failed_after(&self, at: Position, verdict: Verdict, failed: bool) -> bool
-        requires { IsValid (set_of self.now).atomic (spans_in self.now) at }
-        ensures { result ≡ (of_test).failed (piece_in self.now at) verdict failed }
-    {
-        let last = self.ends_block(at);
-        keep_failed(verdict, failed, last)
-    }
-
-    /// What the end of a slice of the pass leaves.
-    pub(crate) fn take_verdict(&mut self, at: Position, verdict: Verdict)
-        requires { IsValid (set_of self.old).atomic (spans_in self.old) at }
+    /// What the end of a slice of the pass leaves, which goes on at the next position.
+    pub(crate) fn take_verdict(&mut self, at: Position, next: Position, verdict: Verdict)
+        requires valid { IsValid (set_of self.old).atomic (spans_in self.old) at }
+        requires next { next ≡ next_place self.old at }
+        requires place { IsValid (set_of self.old).atomic (spans_in self.old) next }
         ensures { self.new ≡ passed self.old (piece_in self.old at) verdict }
     {
-        let next = self.place_after(at);
-        let failed = self.failed_after(at, verdict, self.failed);
-        self.take_result(at, verdict, self.failed);
-        self.failed = failed;
+        let failed = self.failed;
+        let last = self.take_result(at, verdict, failed);
+        self.failed = keep_failed(verdict, failed, last);
         self.state = State::Running { at: next };
     }
 }

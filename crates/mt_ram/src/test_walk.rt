@@ -5,6 +5,7 @@ ghost use Rattle.mt_ram.specs.State.{IsPlace, IsFailureOfPass, set_of};
 ghost use Rattle.mt_ram.specs.Table.{RunFullTest, RunPartialTest, cell, row, in_state};
 ghost use Rattle.mt_ram.specs.TestWalks.{is_whole, full_cell, block_cell, state_behind, IsWay, IsFailureOfWay, refused_walk, begun_walk, Enters};
 
+use crate::result::keep_failed;
 use crate::running::{Decision, Entered};
 use crate::state::{Ram, State};
 use mt_blocks::{Position, passes_begin, passes_go_on};
@@ -246,10 +247,9 @@ impl Walk<Ram> for TestWalk {
         passes_go_on();
         sequences_are_short();
         let Some(at) = self.next else { unreachable!() };
-        let failed = callee.failed_after(at, verdict, self.failed);
         self.next = callee.next_of_test(at, is_whole(self.name));
-        callee.take_result(at, verdict, self.failed);
-        self.failed = failed;
+        let last = callee.take_result(at, verdict, self.failed);
+        self.failed = keep_failed(verdict, self.failed, last);
     }
 
     fn leave(&self, callee: &mut Ram) {

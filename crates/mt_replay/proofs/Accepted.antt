@@ -12,7 +12,7 @@ use Rattle.mt_replay.specs.declared.run.End.{End}
 use Rattle.mt_replay.specs.declared.run.End.TheVariants as end
 use Rattle.mt_replay.specs.declared.status.Status.TheVariants as status
 use Rattle.mt_replay.specs.Input.{Finished, Cut, Parted, job_of}
-use Rattle.mt_replay.specs.Machine.{started}
+use Rattle.mt_machine.specs.Machine.{started}
 use Rattle.mt_replay.specs.Script.{script_from}
 use Rattle.mt_replay.specs.Outcome.{Outcome, end_status, bad_config, configured, by_job, scripted, outcome}
 

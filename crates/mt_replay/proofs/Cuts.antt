@@ -1,13 +1,11 @@
 -- The ticks that are told are the fewest.
-use Rattle.std.proofs.Common.{ℕ, ◌≡◌, ◌++◌, Option, Some, None, sym, ap, ◌∙◌}
+use Rattle.std.proofs.Common.{ℕ, ◌≡◌, ◌++◌, Option, None, sym, ap, ◌∙◌}
 use Rattle.mt_fault.specs.declared.fault.Fault.{Fault}
 use Rattle.mt_blocks.specs.declared.config.ParamSet.{ParamSet}
 use Rattle.mt_cut.specs.Holds.{pass_holds}
 use Rattle.mt_cut.specs.Cuts.{first_above, longest_runs, LongestRunsAreUnder, LongestRunsAreLeast}
 use Rattle.mt_cut.specs.Atomic.{largest}
 use Rattle.mt_replay.specs.declared.form.Ask.{Ask}
-use Rattle.mt_replay.specs.declared.form.Asked.{Asked}
-use Rattle.mt_replay.specs.declared.form.Asked.TheVariants as asks
 use Rattle.mt_replay.specs.declared.form.Form.TheVariants as forms
 use Rattle.mt_replay.specs.declared.run.End.{End}
 use Rattle.mt_replay.specs.Input.{Finished}
@@ -15,7 +13,7 @@ use Rattle.mt_replay.specs.Script.{script_from}
 use Rattle.mt_replay.specs.Cut.{chosen_text, ticks_text, largest_text, pass_text, set_text}
 use Rattle.mt_replay.specs.Outcome.{Outcome, end_text}
 use Rattle.mt_replay.specs.Ticks.{TicksAreLeast}
-use Rattle.mt_replay.specs.Replay.{TellsLeastTicks}
+use Rattle.mt_replay.specs.Promises.{TellsLeastTicks}
 use Rattle.mt_replay.proofs.Accepted.{short_is, is_short, done_is}
 
 set-text : (ask : Ask) (set : ParamSet) → first_above ask.budget (pass_holds set) ≡ None
@@ -35,13 +33,5 @@ ticks_are_least under least ask defect bytes config script c set job is done the
       is = ap (λ (o : Outcome). o.text) given ∙ ap (λ (e : End). end_text (forms.Cut ask) c e) whole.1 ∙ ap (chosen_text ask) there ∙ set-text ask set none;
     }
 
-pub tells_least_ticks : LongestRunsAreUnder → LongestRunsAreLeast → (asked : Option Asked) (defect : Option Fault) → TellsLeastTicks asked defect
-tells_least_ticks under least None defect = tt
-tells_least_ticks under least (Some (asks.Job forms.Run)) defect = tt
-tells_least_ticks under least (Some (asks.Job forms.Check)) defect = tt
-tells_least_ticks under least (Some (asks.Job forms.Format)) defect = tt
-tells_least_ticks under least (Some (asks.Job forms.Migrate)) defect = tt
-tells_least_ticks under least (Some (asks.Job (forms.Cut ask))) defect = ticks_are_least under least ask defect
-tells_least_ticks under least (Some asks.Locate) defect = tt
-tells_least_ticks under least (Some asks.Verify) defect = tt
-tells_least_ticks under least (Some (asks.Soak number)) defect = tt
+pub tells_least_ticks : LongestRunsAreUnder → LongestRunsAreLeast → (defect : Option Fault) → TellsLeastTicks defect
+tells_least_ticks under least defect ask = ticks_are_least under least ask defect

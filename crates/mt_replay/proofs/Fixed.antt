@@ -23,7 +23,7 @@ use Rattle.mt_replay.specs.declared.form.Form.TheVariants as forms
 use Rattle.mt_replay.specs.declared.run.End.{End}
 use Rattle.mt_replay.specs.declared.run.End.TheVariants as end
 use Rattle.mt_replay.specs.Input.{Finished, Cut, cut, led}
-use Rattle.mt_replay.specs.Machine.{started}
+use Rattle.mt_machine.specs.Machine.{started}
 use Rattle.mt_replay.specs.Script.{Script, ended, led_by, taken, judged, script_from}
 use Rattle.mt_replay.specs.Outcome.{Outcome, migrated, canonical_lines, opening_text, end_text, scripted, outcome}
 use Rattle.mt_replay.specs.Fixed.{formatted, migrated_outcome, HasShortLines, FormattingKeepsOutcomes, MigratingKeepsOutcomes}

@@ -27,10 +27,10 @@ use Rattle.mt_replay.specs.declared.status.Status.{Status}
 use Rattle.mt_replay.specs.declared.status.Status.TheVariants as status
 use Rattle.mt_replay.specs.Input.{Ending, Finished, Failed, cut, Job, Parted, Whole, job_of}
 use Rattle.mt_replay.specs.Inner.Head.{Parts, EndsWith, Exceeds, HeadBreaks, IsTooLong}
-use Rattle.mt_replay.specs.Machine.{Machine, started}
+use Rattle.mt_machine.specs.Machine.{Machine, started, Play}
 use Rattle.mt_replay.specs.Script.{Script, ended, led_by, script_from}
 use Rattle.mt_replay.specs.Cut.{chosen_text}
-use Rattle.mt_replay.specs.Outcome.{Outcome, Play, configured, judged_job, steps_touches, bad_config_text, rule_number, play_of, after_of, lines_text, opening_text, closing_text, end_text, end_status, bad_config, said, read_fault_text, scripted, outcome}
+use Rattle.mt_replay.specs.Outcome.{Outcome, configured, judged_job, steps_touches, bad_config_text, rule_number, play_of, after_of, lines_text, opening_text, closing_text, end_text, end_status, bad_config, said, read_fault_text, scripted, outcome}
 use Rattle.mt_replay.specs.Changes.{Change, change, UsesBoard}
 use Rattle.mt_replay.specs.Inner.Runs.{outputs, place, Answered, EndsAt, BeginsWith, EndCaused}
 use Rattle.mt_replay.specs.Inner.Jobs.{Given, TellsRefusals, IsFound, HasBehind, FoundGives, Begins, BeginsEmpty, HeadFails, HasSet, IsTask, closing_of, task_end, BeginsAs, IsBegun, BeginFails}

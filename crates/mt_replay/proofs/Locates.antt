@@ -1,5 +1,5 @@
 -- What `locate` gives, by what came of its lines.
-use Rattle.std.proofs.Common.{ℕ, zero, suc, ◌≡◌, ◌<◌, arith, Bool, true, cond, inl, inr, List, [], ◌∷◌, ◌++◌, length, Option, Some, None, Result, Ok, Err, refl, sym, ap, ◌∙◌, subst, append_assoc}
+use Rattle.std.proofs.Common.{ℕ, zero, suc, ◌≡◌, ◌<◌, arith, Bool, true, cond, inl, inr, List, [], ◌∷◌, ◌++◌, length, Option, Result, Ok, Err, refl, sym, ap, ◌∙◌, subst, append_assoc}
 use Rattle.std.proofs.lemmas.List.Elements.{All-contains, All-filter, All-contains_itself, filter_passes}
 use Rattle.std.proofs.lemmas.List.Kept.{AllPairs-filter}
 use Rattle.std.specs.Prelude.{AllPairs, ◌≢◌, Contains, ◌↔◌, filter, slice_index_or}
@@ -19,8 +19,6 @@ use Rattle.mt_replay.specs.Input.{Ending, Finished, Failed, cut, job_of}
 use Rattle.mt_replay.specs.Locating.{Located, located}
 use Rattle.mt_replay.specs.Locate.{found_faults, LocatingIsExact, stop_text, stop_status, lines_give, locating_by, locating}
 use Rattle.mt_replay.specs.declared.refused.Refused.TheVariants as because
-use Rattle.mt_replay.specs.declared.form.Asked.{Asked}
-use Rattle.mt_replay.specs.declared.form.Asked.TheVariants as asks
 use Rattle.mt_fault.specs.declared.fault.Fault.{Fault}
 use Rattle.mt_locate.specs.Moved.{IsFaultOfSlice}
 use Rattle.mt_locate.specs.Explanations.{Explains}
@@ -32,7 +30,7 @@ use Rattle.mt_replay.specs.Changes.{change}
 use Rattle.mt_replay.specs.Inner.Jobs.{Begins, BeginsEmpty}
 use Rattle.mt_replay.specs.Inner.Locating.{Reader, IsAll, EndsBy, LocatedGives, EndCause, StopCause}
 use Rattle.mt_replay.specs.Inner.Locates.{HasNone, StopTold, ListTold}
-use Rattle.mt_replay.specs.Replay.{Outcomes, JobGives, StatusCaused, Told, ListsWhatExplains}
+use Rattle.mt_replay.specs.Replay.{Outcomes, JobGives, StatusCaused, Told}
 use Rattle.mt_replay.proofs.Accepted.{small}
 use Rattle.mt_replay.proofs.Jobs.{AreJudged, GivesAt, told_through, told_behind, nothing_behind, whole_job, cut_job}
 
@@ -174,7 +172,7 @@ found-once : FaultsAreListedOnce → (l : Located) → AllPairs ◌≢◌ (found
 unfolding explaining
 found-once once l = AllPairs-filter ◌≢◌ (explains l.probe l.misses) (faults_of l.probe.width l.probe.first l.probe.n) (once l.probe.width l.probe.first l.probe.n)
 
-locating-exact : FaultsOfTheSliceAreListed → ExplainsIsTested → FaultsAreListedOnce → LocatingIsExact
+pub locating-exact : FaultsOfTheSliceAreListed → ExplainsIsTested → FaultsAreListedOnce → LocatingIsExact
 locating-exact listed tested once bytes text behind c l job is short read = (
   ap (λ (o : Outcome). o.text)
       (locating-is Finished bytes ∙ ap (judged_job (locating_by Finished) Finished) job
@@ -183,10 +181,3 @@ locating-exact listed tested once bytes text behind c l job is short read = (
   found-exact listed tested l,
   found-once once l,
 )
-
-pub lists_what_explains : FaultsOfTheSliceAreListed → ExplainsIsTested → FaultsAreListedOnce → (asked : Option Asked) → ListsWhatExplains asked
-lists_what_explains listed tested once None = tt
-lists_what_explains listed tested once (Some (asks.Job form)) = tt
-lists_what_explains listed tested once (Some asks.Locate) = locating-exact listed tested once
-lists_what_explains listed tested once (Some asks.Verify) = tt
-lists_what_explains listed tested once (Some (asks.Soak number)) = tt

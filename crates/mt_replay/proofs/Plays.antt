@@ -7,8 +7,8 @@ use Rattle.mt_text.specs.Trace.{entries_text}
 use Rattle.mt_text.specs.Canonical.{canonical}
 use Rattle.mt_replay.specs.declared.form.Form.{Form}
 use Rattle.mt_replay.specs.declared.form.Form.TheVariants as forms
-use Rattle.mt_replay.specs.Machine.{Machine, Step, step}
-use Rattle.mt_replay.specs.Outcome.{Play, stepped, played, steps_text, steps_touches, play_of, canonical_lines, lines_text}
+use Rattle.mt_machine.specs.Machine.{Machine, Step, step, Play, stepped, played}
+use Rattle.mt_replay.specs.Outcome.{steps_text, steps_touches, play_of, canonical_lines, lines_text}
 
 -- ---- what is made of two spans of lines
 

@@ -17,9 +17,9 @@ use Rattle.mt_replay.specs.declared.input.Line.TheVariants as reading
 use Rattle.mt_replay.specs.declared.run.End.{End}
 use Rattle.mt_replay.specs.declared.run.End.TheVariants as end
 use Rattle.mt_replay.specs.Input.{Finished, cut}
-use Rattle.mt_replay.specs.Machine.{Machine}
+use Rattle.mt_machine.specs.Machine.{Machine, Play, played}
 use Rattle.mt_replay.specs.Script.{Script, ended, led_by, taken, judged, lines_from, script_from}
-use Rattle.mt_replay.specs.Outcome.{Play, played, steps_text, steps_touches, done_text}
+use Rattle.mt_replay.specs.Outcome.{steps_text, steps_touches, done_text}
 use Rattle.mt_replay.specs.Verify.{whole_script}
 use Rattle.mt_replay.specs.Inner.Comparing.{Compares}
 use Rattle.mt_replay.specs.Inner.Reading.{BeginsTooLong, TakesLine}

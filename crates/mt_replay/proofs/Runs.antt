@@ -19,9 +19,9 @@ use Rattle.mt_replay.specs.declared.run.Turn.{Turn}
 use Rattle.mt_replay.specs.declared.run.Turn.TheVariants as turn
 use Rattle.mt_replay.specs.Input.{Ending, Finished, Failed, Cut, cut, led, begun}
 use Rattle.mt_replay.specs.Inner.Reading.{HasNoFeed, BeginsTooLong, TakesLine as TakesBytes, BreaksOff}
-use Rattle.mt_replay.specs.Machine.{Machine}
+use Rattle.mt_machine.specs.Machine.{Machine, Play}
 use Rattle.mt_replay.specs.Script.{Script, ended, led_by, judged, last_judged, lines_from, script_from}
-use Rattle.mt_replay.specs.Outcome.{Play, play_of, steps_touches}
+use Rattle.mt_replay.specs.Outcome.{play_of, steps_touches}
 use Rattle.mt_replay.specs.Changes.{Change, change, UsesBoard}
 use Rattle.mt_replay.specs.Inner.Runs.{outputs, Place, place, text_at, touches_at, Answered, Crosses, Goes, EndsAt, Ends, Stops, LineGives, LastGives, TurnGives, ScriptGives}
 use Rattle.mt_replay.proofs.Feeds.{feed_or_not}

@@ -19,12 +19,12 @@ use Rattle.mt_gen.specs.Summary.{summary_of, with_entry}
 use Rattle.mt_gen.specs.Inner.Forms.{LinesAreOfForms}
 use Rattle.mt_replay.specs.declared.status.Status.{Status}
 use Rattle.mt_replay.specs.declared.status.Status.TheVariants as status
-use Rattle.mt_replay.specs.Machine.{Machine, Step, step, IsReady, started}
-use Rattle.mt_replay.specs.Outcome.{Play, played, steps_touches}
+use Rattle.mt_machine.specs.Machine.{Machine, Step, step, IsReady, started, Play, played}
+use Rattle.mt_replay.specs.Outcome.{steps_touches}
 use Rattle.mt_replay.specs.Soak.{entries_of, summary_text, soaked}
 use Rattle.mt_replay.specs.Changes.{Change}
 use Rattle.mt_replay.specs.Inner.Runs.{outputs}
-use Rattle.mt_replay.specs.Inner.Events.{AnswerGives}
+use Rattle.mt_machine.specs.Inner.Events.{AnswerGives}
 use Rattle.mt_replay.specs.Inner.Soaks.{entered, with_line, Adds, Sums}
 use Rattle.mt_replay.specs.Replay.{SoakGives, StatusCaused, Stood, Told}
 use Rattle.mt_replay.proofs.Plays.{played-append, touches-append}

@@ -15,7 +15,7 @@ pub record ReadingLaws : Type 0 where
   pub spelled : (shape : Shape) (text : List ℕ) (line : Line) → (line_of shape text ≡ Ok line) ↔ Spells shape text line
   pub accepted : (shape : Shape) (text : List ℕ) (line : Line) → Spells shape text line → IsAccepted shape line
 
-read_accepted : ReadingLaws → (shape : Shape) (text : List ℕ) (r : Result Line LineRefusal) → line_of shape text ≡ r → IfOk r (λ line. IsAccepted shape line)
+pub read_accepted : ReadingLaws → (shape : Shape) (text : List ℕ) (r : Result Line LineRefusal) → line_of shape text ≡ r → IfOk r (λ line. IsAccepted shape line)
 read_accepted laws shape text (Ok line) is = laws.accepted shape text line ((laws.spelled shape text line).0 is)
 read_accepted laws shape text (Err e) is = tt
 

@@ -25,7 +25,7 @@ use Rattle.std.specs.List.{AllByRecursion}
 use Rattle.mt_port.specs.declared.board.Shape.{Shape}
 use Rattle.mt_verify.specs.Lines.{feeds, lines}
 use Rattle.mt_verify.specs.Laws.{IsWhole, HasNoEmptyLine, HasNoFeed as HasNoLineFeed, LinesEndAtFeeds, FeedsMakeWhole, WholeTextsJoin}
-use Rattle.mt_replay.specs.Machine.{Machine, Step}
+use Rattle.mt_machine.specs.Machine.{Machine, Step}
 use Rattle.mt_replay.specs.Outcome.{done_text, steps_text}
 use Rattle.mt_replay.specs.Inner.Reading.{HasNoFeed}
 use Rattle.mt_replay.specs.declared.comparing.Comparison.{Comparison}
@@ -33,7 +33,7 @@ use Rattle.mt_replay.specs.Inner.Comparing.{StandsBy, Compares}
 use Rattle.mt_port.specs.Board.{Logs}
 use Rattle.mt_port.specs.declared.board.Touch.{Touch}
 use Rattle.mt_text.specs.declared.line.Line.{Line}
-use Rattle.mt_replay.specs.Inner.Events.{Steps}
+use Rattle.mt_machine.specs.Inner.Events.{Steps}
 use Rattle.mt_replay.specs.Inner.Replaying.{Played}
 use Rattle.mt_replay.proofs.Plays.{run_text-one, run_touches-one}
 use Rattle.mt_replay.proofs.Comparisons.{feeds-append}

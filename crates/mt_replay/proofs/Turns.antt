@@ -15,8 +15,8 @@ use Rattle.mt_text.specs.Trace.{entries_text}
 use Rattle.mt_window.specs.declared.log.Entry.{Entry}
 use Rattle.mt_replay.specs.declared.form.Form.TheVariants as forms
 use Rattle.mt_replay.specs.declared.run.End.TheVariants as end
-use Rattle.mt_replay.specs.Inner.Events.{Steps}
-use Rattle.mt_replay.specs.Machine.{Machine}
+use Rattle.mt_machine.specs.Inner.Events.{Steps}
+use Rattle.mt_machine.specs.Machine.{Machine}
 use Rattle.mt_replay.specs.Script.{Script, taken, judged}
 use Rattle.mt_replay.specs.Changes.{Change}
 use Rattle.mt_replay.specs.Inner.Runs.{place, text_at, Answered, IsTaken, EndsThere}

@@ -27,8 +27,7 @@ use Rattle.mt_ram.specs.Event.{of_pass, ticking}
 use Rattle.mt_gen.specs.Config.{job_config}
 use Rattle.mt_gen.specs.Script.{ram_tick, first_lines, lines_behind, script}
 use Rattle.mt_gen.specs.Inner.Forms.{IsOfAForm, RamTick, FlsTick, Writes, Reads, Copies, Asks, LinesAreOfForms}
-use Rattle.mt_replay.specs.Machine.{Machine, begun, step, started}
-use Rattle.mt_replay.specs.Outcome.{played}
+use Rattle.mt_machine.specs.Machine.{Machine, begun, step, started, played}
 
 -- the module is initialized
 abbrev pub IsUp : RamTst → Type 0

@@ -24,8 +24,8 @@ use Rattle.mt_replay.specs.declared.run.End.TheVariants as end
 use Rattle.mt_replay.specs.declared.status.Status.{Status}
 use Rattle.mt_replay.specs.declared.verifying.Kept.{Kept}
 use Rattle.mt_replay.specs.Input.{Ending, Finished, Failed, cut, job_of}
-use Rattle.mt_replay.specs.Machine.{Machine, started}
-use Rattle.mt_replay.specs.Outcome.{Outcome, said, judged_job, played, steps_touches}
+use Rattle.mt_machine.specs.Machine.{Machine, started, played}
+use Rattle.mt_replay.specs.Outcome.{Outcome, said, judged_job, steps_touches}
 use Rattle.mt_replay.specs.Changes.{change}
 use Rattle.mt_replay.specs.Locate.{stop_text, stop_status}
 use Rattle.mt_replay.specs.Verify.{is_front, replayed, telling, judged_by, compared, claim_gives, claimed, verifying_by, verifying}

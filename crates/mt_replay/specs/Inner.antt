@@ -1,7 +1,6 @@
 -- What only the contracts between the crate's own calls cite: the proof of `replay` needs it, and its reader does not.
 pub mod Reading
 pub mod Head
-pub mod Events
 pub mod Runs
 pub mod Jobs
 pub mod Locating

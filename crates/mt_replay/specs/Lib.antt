@@ -1,6 +1,5 @@
 pub mod Input
 pub mod Status
-pub mod Machine
 pub mod Script
 pub mod Cut
 pub mod Outcome
@@ -9,11 +8,8 @@ pub mod Locate
 pub mod Verify
 pub mod Soak
 pub mod Changes
-pub mod Latency
-pub mod Plain
-pub mod Memory
 pub mod Ticks
-pub mod Detection
+pub mod Promises
 pub mod Replay
 pub mod Fixed
 pub mod Inner

@@ -23,7 +23,7 @@ use Rattle.mt_replay.specs.declared.run.End.TheVariants as end
 use Rattle.mt_replay.specs.declared.status.Status.{Status}
 use Rattle.mt_replay.specs.declared.status.Status.TheVariants as status
 use Rattle.mt_replay.specs.Input.{Ending, Finished, Failed, Cut, Job, Parted, Whole, job_of}
-use Rattle.mt_replay.specs.Machine.{Machine, Step, step, started}
+use Rattle.mt_machine.specs.Machine.{Machine, Step, Play, played, started}
 use Rattle.mt_replay.specs.Script.{Script, script_from}
 use Rattle.mt_replay.specs.Cut.{chosen_text}
 
@@ -55,21 +55,6 @@ bad_config_text (because.Rule code) = codes "bad config " ++ decimal code ++ cod
 bad_config_text (because.March set kind place) = codes "bad config 11 " ++ decimal set ++ codes " " ++ decimal kind ++ codes " " ++ decimal place ++ codes "\n"
 
 -- ---- a replay
-
--- what the machine makes of some lines, one step a line, and the machine after them
-pub record Play : Type 0 where
-  pub steps : List Step
-  pub after : Machine
-
-abbrev pub stepped : Step → Play → Play
-stepped s more = record { steps = s ∷ more.steps; after = more.after }
-
-abbrev pub played_by : (Machine → Line → Step) → Machine → List Line → Play
-played_by does m [] = record { steps = []; after = m }
-played_by does m (line ∷ more) = stepped (does m line) (played_by does (does m line).after more)
-
-abbrev pub played : Machine → List Line → Play
-played m lines = played_by step m lines
 
 -- the trace lines of steps, the first of which has this number, and all their accesses
 abbrev pub steps_text : Shape → ℕ → List Step → List ℕ

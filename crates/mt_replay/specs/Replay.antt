@@ -1,5 +1,5 @@
 -- What the top call does.
-use Rattle.std.specs.Prelude.{ℕ, ◌-◌, ◌^◌, ◌<◌, ◌≡◌, ◌⊎◌, false, if◌then◌else◌, List, [], ◌∷◌, ◌++◌, All, codes, Option, Some, None, String, string_bytes}
+use Rattle.std.specs.Prelude.{ℕ, ◌-◌, ◌^◌, ◌<◌, ◌≡◌, ◌⊎◌, false, if◌then◌else◌, List, [], ◌∷◌, ◌++◌, codes, Option, Some, None, String, string_bytes}
 use Rattle.std.specs.declared.alloc.Global.{Global}
 use Rattle.std.specs.Str.{bytes_eq}
 use Rattle.std.specs.Io.KnownBytes.{Appends}
@@ -18,14 +18,9 @@ use Rattle.mt_replay.specs.declared.status.Status.TheVariants as status
 use Rattle.mt_replay.specs.Input.{Ending, Finished, Failed}
 use Rattle.mt_replay.specs.Outcome.{After, Outcome, outcome}
 use Rattle.mt_replay.specs.Changes.{Change, UsesBoard}
-use Rattle.mt_replay.specs.Latency.{ServesInTime}
-use Rattle.mt_replay.specs.Locate.{locating, LocatingIsExact}
+use Rattle.mt_replay.specs.Locate.{locating}
 use Rattle.mt_replay.specs.Verify.{verifying}
 use Rattle.mt_replay.specs.Soak.{soaked}
-use Rattle.mt_replay.specs.Plain.{ReplaysLeaveNoTrace}
-use Rattle.mt_replay.specs.Memory.{ReplaysArePlain}
-use Rattle.mt_replay.specs.Detection.{PassesFindFaults}
-use Rattle.mt_replay.specs.Ticks.{TicksAreLeast}
 
 -- ---- the words
 
@@ -201,32 +196,3 @@ Completes (Some asks.Locate) result defect left source source' sink sink' = Comp
 Completes (Some asks.Verify) result defect left source source' sink sink' = CompletesBy (verifying defect) result left source source' sink sink'
 Completes (Some (asks.Soak number)) result defect left source source' sink sink' =
     Stood sink sink' → (result ≡ (soaked number defect).status) ⊎ (result ≡ status.NoMemory)
-
--- Whatever bytes a job has, the requests of each step are served in time; and so are those of the generated jobs.
-abbrev pub AreServedInTime : Option Asked → Option Fault → Type 0
-AreServedInTime None defect = Unit {0}
-AreServedInTime (Some (asks.Job form)) defect = (ending : Ending) (bytes : List ℕ) → All ServesInTime (outcome form ending defect bytes).steps
-AreServedInTime (Some asks.Locate) defect = Unit {0}
-AreServedInTime (Some asks.Verify) defect = Unit {0}
-AreServedInTime (Some (asks.Soak number)) defect = All ServesInTime (soaked number defect).steps
-
--- On sound memory no test of a replay touches a word of the application, but that destructive blocks are filled; the application finds a plain
--- memory on which its operations and these fills are done.
-abbrev pub LeavesNoTrace : Option Asked → Option Fault → Type 0
-LeavesNoTrace (Some (asks.Job forms.Run)) defect = ReplaysLeaveNoTrace defect × ReplaysArePlain defect
-LeavesNoTrace asked defect = Unit {0}
-
--- Where a slice and what was missed there are given, the faults that explain it are listed, and no others.
-abbrev pub ListsWhatExplains : Option Asked → Type 0
-ListsWhatExplains (Some asks.Locate) = LocatingIsExact
-ListsWhatExplains asked = Unit {0}
-
--- Where the cuts of a set are asked for, no cut under the budget has fewer ticks than are told.
-abbrev pub TellsLeastTicks : Option Asked → Option Fault → Type 0
-TellsLeastTicks (Some (asks.Job (forms.Cut ask))) defect = TicksAreLeast ask defect
-TellsLeastTicks asked defect = Unit {0}
-
--- Where a pass of a replay runs undisturbed over a fault that its algorithm catches, the block of its slice is NOT_OK behind it.
-abbrev pub FindsFaults : Option Asked → Option Fault → Type 0
-FindsFaults (Some (asks.Job forms.Run)) defect = PassesFindFaults defect
-FindsFaults asked defect = Unit {0}

@@ -13,8 +13,8 @@ use Rattle.mt_gen.specs.declared.summary.Summary.{Summary}
 use Rattle.mt_gen.specs.Summary.{summary_of}
 use Rattle.mt_replay.specs.declared.form.Form.TheVariants as forms
 use Rattle.mt_replay.specs.declared.status.Status.TheVariants as status
-use Rattle.mt_replay.specs.Machine.{Step, started}
-use Rattle.mt_replay.specs.Outcome.{Play, Outcome, played, after_of, done_text}
+use Rattle.mt_machine.specs.Machine.{Step, started, Play, played}
+use Rattle.mt_replay.specs.Outcome.{Outcome, after_of, done_text}
 
 -- a line with a word and a number, or with a word and a text
 abbrev pub word_text : (word text : List ℕ) → List ℕ

@@ -17,7 +17,7 @@ use Rattle.mt_replay.specs.declared.run.End.TheVariants.{Whole, Refused, Broken}
 use Rattle.mt_replay.specs.declared.status.Status.{Status}
 use Rattle.mt_replay.specs.declared.status.Status.TheVariants as status
 use Rattle.mt_replay.specs.Input.{Ending, Finished, Failed, Cut, separator, job_of}
-use Rattle.mt_replay.specs.Machine.{started}
+use Rattle.mt_machine.specs.Machine.{started}
 use Rattle.mt_replay.specs.Script.{Script}
 use Rattle.mt_replay.specs.Locating.{◌>>=◌}
 use Rattle.mt_replay.specs.Locate.{stop_text, stop_status}

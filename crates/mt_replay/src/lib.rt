@@ -3,8 +3,6 @@
 
 mod comparing;
 mod cut;
-mod driven;
-mod event;
 mod form;
 mod head;
 mod input;
@@ -12,7 +10,6 @@ mod job;
 mod laws;
 mod locate;
 mod locating;
-mod modules;
 mod refused;
 mod replaying;
 mod run;
@@ -23,8 +20,6 @@ mod top;
 mod verify;
 mod verifying;
 
-pub use laws::{
-    formatting_keeps_outcomes, migrating_keeps_outcomes, passes_find_faults, traces_are_of_steps,
-};
+pub use laws::{formatting_keeps_outcomes, migrating_keeps_outcomes, traces_are_of_steps};
 pub use status::{Status, exit_number};
 pub use top::replay;

@@ -10,21 +10,18 @@ ghost use Rattle.mt_verify.specs.Lines.{feed_limit};
 ghost use Rattle.mt_port.specs.Memory.{plain_left};
 ghost use Rattle.mt_text.specs.Accepted.{IsAccepted as IsAcceptedLine};
 ghost use Rattle.mt_text.specs.Trace.{entries_text};
-ghost use Rattle.mt_replay.specs.Machine.{machine, IsReady};
+ghost use Rattle.mt_machine.specs.Machine.{machine, IsReady};
 ghost use Rattle.mt_replay.specs.Changes.{UsesBoard};
 ghost use Rattle.mt_replay.specs.Inner.Comparing.{Compares, KeepsCause, IsDrained};
 ghost use Rattle.mt_replay.specs.Inner.Replaying.{Played, IsScript, PlayedWhole, HasLine, TakesFirst};
 
 use crate::comparing::Comparison;
-use crate::event::perform;
 use crate::form::Form;
 use crate::input::{Input, LineText};
-use crate::modules::Modules;
 use crate::text::done_text;
 use arrayvec::ArrayVec;
-use mt_fls::running_calls_keep_the_board as fls_keeps_the_board;
+use mt_machine::{Modules, lines_keep_the_board, perform};
 use mt_port::{Bench, PlainSource, Shape, Source};
-use mt_ram::running_calls_keep_the_board as ram_keeps_the_board;
 use mt_text::{Line, entry_text, trace_lines_stand_in_order};
 use mt_window::{Entry, EventLog, Reply};
 use mt_word::Width;
@@ -119,8 +116,7 @@ pub(crate) fn play_line<S: Source, B: Bench>(
     ensures drained { IsDrained comparison.old input.old → IsDrained comparison.new input.new }
     ensures few { comparison.new.tally ≤ comparison.old.tally + 257 }
 {
-    ram_keeps_the_board();
-    fls_keeps_the_board();
+    lines_keep_the_board();
     sheet.log.clear();
     match perform(modules, board, &mut sheet.line, &mut sheet.log) {
         None => {}

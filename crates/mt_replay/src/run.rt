@@ -6,19 +6,16 @@ ghost use Rattle.mt_port.specs.Causes.{HasCause};
 ghost use Rattle.mt_port.specs.Streams.{AppendsFront, WhereTold};
 ghost use Rattle.mt_text.specs.Accepted.{IsAccepted as IsAcceptedLine};
 ghost use Rattle.mt_text.specs.Trace.{entries_text};
-ghost use Rattle.mt_replay.specs.Machine.{Machine, machine, IsReady};
+ghost use Rattle.mt_machine.specs.Machine.{Machine, machine, IsReady};
 ghost use Rattle.mt_replay.specs.Script.{judged};
 ghost use Rattle.mt_replay.specs.Changes.{change, UsesBoard};
 ghost use Rattle.mt_replay.specs.Inner.Runs.{outputs, place, text_at, Answered, LineGives, LastGives, TurnGives, ScriptGives, PastGives, EndCaused, TurnCaused, ScriptCaused, IsReadyFor};
 
-use crate::event::perform;
 use crate::form::{Form, Task};
 use crate::input::{Input, Line as Reading, LineText};
-use crate::modules::Modules;
 use arrayvec::ArrayVec;
-use mt_fls::running_calls_keep_the_board as fls_keeps_the_board;
+use mt_machine::{Modules, lines_keep_the_board, perform};
 use mt_port::{Bench, Failed, Shape, Sink, Source, put};
-use mt_ram::running_calls_keep_the_board as ram_keeps_the_board;
 use mt_text::{Line, LineText as CanonicalText, entry_text, push_line, trace_lines_stand_in_order};
 use mt_window::{Entry, EventLog, Reply};
 use mt_word::Width;
@@ -131,8 +128,7 @@ fn play_line<K: Sink, B: Bench>(
         (text_at (place Form.Run shape number) (machine (B.state board.old) modules.old) (desk.old.line ∷ []))) }
     ensures cause { HasCause (K.faults sink.old) (K.faults sink.new) result }
 {
-    ram_keeps_the_board();
-    fls_keeps_the_board();
+    lines_keep_the_board();
     desk.log.clear();
     match perform(modules, board, &mut desk.line, &mut desk.log) {
         None => Ok(()),

@@ -4,23 +4,21 @@ ghost use Rattle.std.specs.Prelude.{◌≡◌, ◌≢◌, ◌≤◌, length};
 ghost use Rattle.mt_text.specs.Accepted.{IsAccepted as IsAcceptedLine};
 ghost use Rattle.mt_ram.specs.Results.{overall};
 ghost use Rattle.mt_gen.specs.Script.{job_shape, script};
-ghost use Rattle.mt_replay.specs.Machine.{machine, step, IsReady};
+ghost use Rattle.mt_machine.specs.Machine.{machine, step, IsReady};
 ghost use Rattle.mt_replay.specs.Inner.Runs.{outputs};
 ghost use Rattle.mt_replay.specs.Inner.Soaks.{entered, with_line, HasRoom, IsLittleMore, Adds, Sums};
 ghost use Rattle.mt_replay.specs.Replay.{SoakGives, IsLeftFree};
 
-use crate::event::perform;
 use crate::job::{power_up, tell};
-use crate::modules::Modules;
 use crate::status::Status;
 use crate::text::summary_text;
-use mt_fls::running_calls_keep_the_board as fls_keeps_the_board;
 use mt_gen::{
     ScriptLines, Summary, job_config, lines_are_of_forms, scripts_are_accepted,
     scripts_have_20000_lines, summaries_are_sums,
 };
+use mt_machine::{Modules, lines_keep_the_board, perform};
 use mt_port::{Bench, Sink};
-use mt_ram::{Ram, State, running_calls_keep_the_board as ram_keeps_the_board};
+use mt_ram::{Ram, State};
 use mt_text::Line;
 use mt_window::{Entry, EventLog, Reply, TestResult, Value};
 use std::alloc::Global;
@@ -59,8 +57,7 @@ fn soak_line<B: Bench>(
     ensures little { IsLittleMore summary.old summary.new }
     ensures defect { (B.state board.new).defect ≡ (B.state board.old).defect }
 {
-    ram_keeps_the_board();
-    fls_keeps_the_board();
+    lines_keep_the_board();
     log.clear();
     let reply = perform(modules, board, line, log);
     add_line(summary, log.entries(), reply);

@@ -4,28 +4,24 @@ ghost use Rattle.std.specs.Prelude.{◌≡◌, Option, Some};
 ghost use Rattle.mt_fault.specs.declared.fault.Fault.{Fault as MemoryFault};
 ghost use Rattle.mt_replay.specs.declared.form.Asked.{Asked};
 ghost use Rattle.mt_replay.specs.Changes.{change};
-ghost use Rattle.mt_replay.specs.Replay.{form_named, soak_of, soak_named, ask_of, ask_named, form_of, Replays, StatusCaused, LeavesBoard, IsLeftFree, Completes, AreServedInTime, LeavesNoTrace, ListsWhatExplains, TellsLeastTicks, FindsFaults};
+ghost use Rattle.mt_replay.specs.Locate.{LocatingIsExact};
+ghost use Rattle.mt_replay.specs.Promises.{AreServedInTime, LeavesNoTrace, FindsFaults, TellsLeastTicks};
+ghost use Rattle.mt_replay.specs.Replay.{form_named, soak_of, soak_named, ask_of, ask_named, form_of, Replays, StatusCaused, LeavesBoard, IsLeftFree, Completes};
 
 use crate::form::{Ask, Asked, Form};
 use crate::job::{replay_job, tell};
-use crate::laws::passes_find_faults;
 use crate::locate::locate_job;
 use crate::soak::soak_job;
 use crate::status::Status;
 use crate::verify::verify_job;
 use mt_conf::accepted_is_taken;
 use mt_cut::longest_runs_are_least;
-use mt_fls::{
-    running_calls_keep_the_board as fls_keeps_the_board, waits_of_running_calls as fls_waits,
-};
 use mt_gen::scripts_are_accepted;
+use mt_laws::{
+    memory_is_plain, passes_find_faults, requests_are_served_in_time, tests_leave_no_trace,
+};
 use mt_locate::{explaining_is_tested, faults_are_listed_once, faults_of_the_slice_are_listed};
 use mt_port::{Bench, Sink, Source};
-use mt_ram::{
-    running_calls_keep_the_board as ram_keeps_the_board, running_calls_leave_setting,
-    services_leave_setting, tests_leave_no_trace, waits_of_running_calls as ram_waits,
-};
-use mt_seq::attempts_on_sound_memory;
 use mt_text::{number_of, reading_is_spelling, spelled_lines_are_accepted};
 use std::alloc::Global;
 
@@ -108,34 +104,32 @@ fn form_of(words: &[String]) -> Option<Asked>
     }
 }
 
-// What holds of every call, by what it asks for.
+// What is promised of every replay.
 fn promise()
-    ensures latency { (asked : Option Asked) (defect : Option MemoryFault) → AreServedInTime asked defect }
-    ensures transparent { (asked : Option Asked) (defect : Option MemoryFault) → LeavesNoTrace asked defect }
-    ensures exact { (asked : Option Asked) → ListsWhatExplains asked }
-    ensures least { (asked : Option Asked) (defect : Option MemoryFault) → TellsLeastTicks asked defect }
-    ensures detects { (asked : Option Asked) (defect : Option MemoryFault) → FindsFaults asked defect }
+    ensures latency { (defect : Option MemoryFault) → AreServedInTime defect }
+    ensures transparent { (defect : Option MemoryFault) → LeavesNoTrace defect }
+    ensures detects { (defect : Option MemoryFault) → FindsFaults defect }
 {
-    // No cut under a budget has fewer ticks than the longest runs.
+    // Lines that are read are accepted, and so are generated ones and configurations.
+    reading_is_spelling();
+    spelled_lines_are_accepted();
+    scripts_are_accepted();
+    accepted_is_taken();
+    requests_are_served_in_time();
+    tests_leave_no_trace();
+    memory_is_plain();
+    passes_find_faults();
+}
+
+// What is promised of the forms that list faults and cut passes.
+fn promise_of_tables()
+    ensures exact { LocatingIsExact }
+    ensures least { (defect : Option MemoryFault) → TellsLeastTicks defect }
+{
     longest_runs_are_least();
     faults_of_the_slice_are_listed();
     explaining_is_tested();
     faults_are_listed_once();
-    ram_waits();
-    fls_waits();
-    // Lines that are read are accepted, and so are generated ones.
-    reading_is_spelling();
-    spelled_lines_are_accepted();
-    scripts_are_accepted();
-    // On sound memory tests leave no trace.
-    accepted_is_taken();
-    attempts_on_sound_memory();
-    tests_leave_no_trace();
-    services_leave_setting();
-    running_calls_leave_setting();
-    ram_keeps_the_board();
-    fls_keeps_the_board();
-    passes_find_faults();
 }
 
 // Does what is asked for.
@@ -196,22 +190,23 @@ pub fn replay<S: Source, K: Sink, B: Bench>(
         (S.faults source.old) (S.faults source.new) (K.faults sink.old) (K.faults sink.new) }
     // Whatever bytes the job has, each request of its replay is served where its offset says; it waits 0, or less than the
     // length of the attempt that it meets; and an urgent one at most the words of the slice, where the attempt may be dropped.
-    ensures latency { AreServedInTime (form_of words.now) (B.state board.old).defect }
+    ensures latency { AreServedInTime (B.state board.old).defect }
     // Whatever bytes the job has, where the board has no fault at the start and no line injects one, its replay comes to the
     // same where no test touches a word of the application, but that each sequence that has ended leaves the fill of a
     // destructive block: the same answers, waits and results, and the same words after each line. Each answer of the
     // application is that of a plain memory on which its operations are done in script order, with such fills between them.
-    ensures transparent { LeavesNoTrace (form_of words.now) (B.state board.old).defect }
+    ensures transparent { LeavesNoTrace (B.state board.old).defect }
     // Whatever bytes the input has, `locate` lists a fault exactly where it lies inside the slice and explains what was missed
     // there, and each once.
-    ensures exact { ListsWhatExplains (form_of words.now) }
+    ensures exact { LocatingIsExact }
     // Whatever bytes the job has, no cut under the budget has fewer ticks than `cut` tells.
-    ensures least { TellsLeastTicks (form_of words.now) (B.state board.old).defect }
+    ensures least { TellsLeastTicks (B.state board.old).defect }
     // Whatever bytes the job has, where a pass of its replay runs undisturbed over a fault that its algorithm catches, the
     // block of its slice is NOT_OK behind it.
-    ensures detects { FindsFaults (form_of words.now) (B.state board.old).defect }
+    ensures detects { FindsFaults (B.state board.old).defect }
 {
     promise();
+    promise_of_tables();
     match form_of(words) {
         Some(asked) => answer(alloc, asked, source, sink, board),
         None => tell(sink, b"usage\n", Status::Usage),

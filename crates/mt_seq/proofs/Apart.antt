@@ -27,6 +27,7 @@ use Rattle.mt_seq.specs.declared.sequence.Slice.{Slice}
 use Rattle.mt_seq.specs.Attempts.{backed_out}
 use Rattle.mt_seq.specs.Laws.{OwnAccessesDecide, left_words}
 use Rattle.mt_seq.specs.Makes.{Makes}
+use Rattle.mt_seq.proofs.Makes.{Makes-nil, Makes-same}
 use Rattle.mt_seq.specs.Sequence.{IsSoundSlice, accesses_of, back_of, ending, listed, saved_words, saving, sequence, sequence_hold, sequence_words, testing}
 use Rattle.mt_seq.proofs.Attempts.{hold_length}
 use Rattle.mt_seq.proofs.NamedLists.{filter-reverse}
@@ -261,6 +262,14 @@ without b job slice spares = ap (λ saved. listed b.shape.width job slice saved 
 sequence_outside : (b : Board) (job : Job) (slice : Slice) → IsAccepted job.alg → (a : ℕ) → Outside slice a → All (Off a) (sequence b job slice)
 unfolding sequence
 sequence_outside b job slice accepted a out = off_sequence b job slice (steps_of job.alg slice.n) a (steady_plans job.alg slice.n accepted).inside out
+
+-- a sequence there that keeps the words only counts
+pub Makes-spared : (job : Job) (slice : Slice) (a c : Board) (ta tc : Option (List Touch)) → IsSound a → IsAccepted job.alg → job.policy ≡ NonDestructive → IsSoundSlice a.shape.ram slice → Spares a.fault slice
+    → c ≡ record a { count = a.count + sequence_hold job slice.n } → tc ≡ None → Makes (sequence a job slice) a c ta tc true
+Makes-spared job slice a c ta tc sound accepted keeps on spares counted told =
+    let items : List Item = sequence a job slice in
+    let nothing = none_left a.fault items (spared_items a.fault slice items spares (sequence_outside a job slice accepted)) in
+    Makes-own job slice a a c ta ta tc true sound accepted keeps on (Makes-same (sym nothing) refl (Makes-nil a ta sound)) counted told
 
 -- What a sequence on such a slice comes to: it passes, and leaves the words, or the fill.
 pub spared_sequence : (b : Board) (job : Job) (slice : Slice) → IsSound b → IsAccepted job.alg → Spares b.fault slice

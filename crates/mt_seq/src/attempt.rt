@@ -23,15 +23,19 @@ use arrayvec::ArrayVec;
 use mt_plan::{Algorithm, Policy, hold_of, steps};
 use mt_port::Port;
 
-/// The first moment from 1 on and below the end at which an offset is reached.
-fn first_moment(offset: Option<u32>, count: u32, end: u32) -> Option<u32>
-    requires { 1 ≤ end }
-    ensures { result ≡ find (λ i. is_due (count + i) offset) (range_with_len 1 (end - 1)) }
+/// The first moment after the first access, and before the writes that end a sequence on n cells, at which an offset is reached.
+fn first_moment(offset: Option<u32>, count: u32, alg: &Algorithm, n: u8) -> Option<u32>
+    requires accepted { IsAccepted alg.now }
+    requires some { 1 ≤ n }
+    requires small { n ≤ 64 }
+    ensures { result ≡ find (λ i. is_due (count + i) offset)
+        (range_with_len 1 (n + length (steps_of alg.now n) - 1)) }
 {
     let moment = match offset {
         Some(offset) => offset.saturating_sub(count).max(1),
         None => return None,
     };
+    let end = u32::from(n) + steps(alg, u32::from(n));
     if moment < end { Some(moment) } else { None }
 }
 
@@ -48,10 +52,9 @@ fn dropped_at<P: Port>(
     requires small { slice.n ≤ 64 }
     ensures { result ≡ dropped_at may (P.state port.now) (job_of alg.now frame) slice }
 {
-    let end = u32::from(slice.n) + steps(alg, u32::from(slice.n));
     match frame.policy {
         Policy::NonDestructive => if may {
-            first_moment(port.next_urgent(), port.made(), end)
+            first_moment(port.next_urgent(), port.made(), alg, slice.n)
         } else {
             None
         },
@@ -118,6 +121,23 @@ fn make_decided<P: Port>(
     good
 }
 
+/// A test that keeps the words of a slice which the fault spares: no access is made, and all are counted.
+fn count_whole<P: Port>(port: &mut P, _alg: &Algorithm, _frame: Frame, slice: Slice, hold: u32)
+    requires held { (P.state port.old).held ≡ true }
+    requires job { IsSoundJob (P.state port.old).shape.width (job_of _alg.now _frame) }
+    requires slice { IsSoundSlice (P.state port.old).shape.ram slice }
+    requires keeps { _frame.policy ≡ Policy.NonDestructive }
+    requires hold { hold ≡ sequence_hold (job_of _alg.now _frame) slice.n }
+    requires spared { cells_of_fault (P.state port.old).fault slice.first slice.n ≡ [] }
+    requires over { is_over P.keeps (P.tape port.old) hold ≡ true }
+    requires room { (P.state port.old).count + hold < 2 ^ 32 }
+    ensures { Makes (sequence (P.state port.old) (job_of _alg.now _frame) slice)
+        (P.state port.old) (P.state port.new) (P.tape port.old) (P.tape port.new) true }
+{
+    let end = port.made() + hold;
+    port.count_up_to(end);
+}
+
 /// A test that keeps the words: if the port says which cells decide it, the accesses of these alone.
 fn make_keeping<P: Port>(port: &mut P, alg: &Algorithm, frame: Frame, slice: Slice) -> bool
     requires held { (P.state port.old).held ≡ true }
@@ -130,6 +150,10 @@ fn make_keeping<P: Port>(port: &mut P, alg: &Algorithm, frame: Frame, slice: Sli
 {
     let hold = hold_of(alg, frame.policy, u32::from(slice.n));
     match port.cells_to_test(slice.first, slice.n, hold) {
+        Some(cells) if cells.is_empty() => {
+            count_whole(port, alg, frame, slice, hold);
+            true
+        }
         Some(cells) => make_decided(port, alg, frame, slice, cells.as_slice()),
         None => make_each(port, alg, frame, slice),
     }

@@ -23,7 +23,7 @@ use Rattle.mt_replay.specs.declared.run.End.TheVariants as end
 use Rattle.mt_replay.specs.declared.status.Status.{Status}
 use Rattle.mt_replay.specs.declared.status.Status.TheVariants as status
 use Rattle.mt_replay.specs.Input.{Ending, Finished, Failed, Cut, cut, Parted, job_of}
-use Rattle.mt_replay.specs.Machine.{Machine, started}
+use Rattle.mt_machine.specs.Machine.{Machine, started}
 use Rattle.mt_replay.specs.Cut.{chosen_text}
 use Rattle.mt_replay.specs.Outcome.{Outcome, bad_config, said, refused_of, done_text, refused_text, read_fault_text, opening_text, judged_job}
 use Rattle.mt_replay.specs.Changes.{Change}

@@ -5,11 +5,11 @@ use Rattle.mt_port.specs.declared.board.Shape.{Shape}
 use Rattle.mt_port.specs.declared.board.Touch.{Touch}
 use Rattle.mt_text.specs.declared.line.Line.{Line}
 use Rattle.mt_replay.specs.declared.comparing.Comparison.{Comparison}
-use Rattle.mt_replay.specs.Machine.{Machine}
+use Rattle.mt_machine.specs.Machine.{Machine, played}
 use Rattle.mt_replay.specs.Input.{Finished, cut}
 use Rattle.mt_replay.specs.Script.{Script, led_by, script_from}
 use Rattle.mt_replay.specs.Verify.{whole_script}
-use Rattle.mt_replay.specs.Outcome.{played, steps_touches, steps_text, done_text}
+use Rattle.mt_replay.specs.Outcome.{steps_touches, steps_text, done_text}
 use Rattle.mt_replay.specs.Inner.Comparing.{Compares}
 
 -- Lines were replayed: their text was compared, their accesses were made, and the machine is the one after them.

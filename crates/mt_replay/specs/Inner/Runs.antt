@@ -15,7 +15,7 @@ use Rattle.mt_replay.specs.declared.run.End.TheVariants as end
 use Rattle.mt_replay.specs.declared.run.Turn.{Turn}
 use Rattle.mt_replay.specs.declared.run.Turn.TheVariants as turn
 use Rattle.mt_replay.specs.Input.{Ending, Finished, Failed, cut}
-use Rattle.mt_replay.specs.Machine.{Machine, IsReady}
+use Rattle.mt_machine.specs.Machine.{Machine, IsReady}
 use Rattle.mt_replay.specs.Script.{Script, ended, led_by, script_from}
 use Rattle.mt_replay.specs.Changes.{Change, change}
 use Rattle.mt_replay.specs.Outcome.{play_of, steps_touches, lines_text}

@@ -8,8 +8,8 @@ use Rattle.mt_window.specs.declared.log.Entry.TheVariants.{Own}
 use Rattle.mt_window.specs.declared.reply.Reply.{Reply}
 use Rattle.mt_gen.specs.declared.summary.Summary.{Summary}
 use Rattle.mt_gen.specs.Summary.{summary_of, with_entry}
-use Rattle.mt_replay.specs.Machine.{Machine, Step}
-use Rattle.mt_replay.specs.Outcome.{played, steps_touches}
+use Rattle.mt_machine.specs.Machine.{Machine, Step, played}
+use Rattle.mt_replay.specs.Outcome.{steps_touches}
 use Rattle.mt_replay.specs.Soak.{entries_of}
 
 -- the sums with the entries of one line more

@@ -10,8 +10,8 @@ use Rattle.mt_replay.specs.declared.comparing.Verdict.{Verdict}
 use Rattle.mt_replay.specs.declared.comparing.Verdict.TheVariants as verdict
 use Rattle.mt_replay.specs.declared.status.Status.{Status}
 use Rattle.mt_replay.specs.declared.status.Status.TheVariants as status
-use Rattle.mt_replay.specs.Machine.{Machine}
-use Rattle.mt_replay.specs.Outcome.{played, steps_touches, steps_text, done_text, read_fault_text}
+use Rattle.mt_machine.specs.Machine.{Machine, played}
+use Rattle.mt_replay.specs.Outcome.{steps_touches, steps_text, done_text, read_fault_text}
 use Rattle.mt_replay.specs.Inner.Comparing.{VerdictGives}
 
 -- what is told of two texts, or of a source that failed

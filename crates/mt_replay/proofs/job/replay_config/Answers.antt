@@ -6,7 +6,7 @@ use Rattle.mt_replay.specs.Changes.{UsesBoard}
 use Rattle.mt_replay.specs.declared.job.Found.TheVariants as found
 use Rattle.mt_replay.specs.declared.job.Follows.{Follows}
 use Rattle.mt_replay.specs.declared.run.End.TheVariants as end
-use Rattle.mt_replay.specs.Machine.{machine}
+use Rattle.mt_machine.specs.Machine.{machine}
 use Rattle.mt_replay.specs.Inner.Runs.{place}
 use Rattle.mt_replay.specs.Inner.Jobs.{FoundGives}
 use Rattle.mt_replay.proofs.Runs.{Answered-none, UsesBoard-none, UsesBoard-then}

@@ -1,6 +1,6 @@
 use Rattle.std.proofs.Common.{ap, Ok}
 use Rattle.std.specs.Io.KnownBytes.{prepend_known}
-use Rattle.mt_replay.specs.Machine.{machine}
+use Rattle.mt_machine.specs.Machine.{machine}
 use Rattle.mt_replay.specs.declared.run.End.{End}
 use Rattle.mt_replay.proofs.Jobs.{gives_at, ended_job, ended_caused, stopped_job}
 use Rattle.mt_replay.proofs.job.take_lines.Goals as goal

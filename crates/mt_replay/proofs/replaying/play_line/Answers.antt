@@ -1,9 +1,8 @@
 use Rattle.std.proofs.Common.{◌∷◌, ◌++◌, [], ◌∙◌, ap, sym, subst, List}
 use Rattle.mt_window.specs.declared.log.Entry.{Entry}
 use Rattle.mt_window.specs.declared.log.Entry.TheVariants.{Own}
-use Rattle.mt_replay.specs.Inner.Events.{Steps}
-use Rattle.mt_replay.specs.Machine.{Machine, machine}
-use Rattle.mt_replay.proofs.Defects.{boards_stay, step-defect}
+use Rattle.mt_machine.specs.Inner.Events.{Steps}
+use Rattle.mt_machine.specs.Machine.{Machine, machine}
 use Rattle.mt_replay.proofs.Traces.{played_one, played_none}
 use Rattle.mt_replay.proofs.replaying.play_line.Goals as goal
 
@@ -19,14 +18,10 @@ returns-in-Some-clause-plays g c =
 
 pub returns-in-None-clause-board : goal.returns-in-None-clause-board
 returns-in-None-clause-board g c =
-    let ram = c.running_calls_keep_the_board.ensures in
-    let fls = c.running_calls_keep_the_board-2.ensures in
     let m : Machine = machine (g.B.Port.state c.args.board.now) c.args.modules.now in
-    ap (λ (n : Machine). n.board.defect) (sym c.in-None.ensures.gives.after) ∙ step-defect (boards_stay ram.tick ram.full ram.partial fls.tick fls.foreground) m c.args.sheet.now.line
+    ap (λ (n : Machine). n.board.defect) (sym c.in-None.ensures.gives.after) ∙ c.lines_keep_the_board.ensures.defect m c.args.sheet.now.line
 
 pub returns-in-Some-clause-board : goal.returns-in-Some-clause-board
 returns-in-Some-clause-board g c =
-    let ram = c.running_calls_keep_the_board.ensures in
-    let fls = c.running_calls_keep_the_board-2.ensures in
     let m : Machine = machine (g.B.Port.state c.args.board.now) c.args.modules.now in
-    ap (λ (n : Machine). n.board.defect) (sym c.in-Some.ensures.gives.after) ∙ step-defect (boards_stay ram.tick ram.full ram.partial fls.tick fls.foreground) m c.args.sheet.now.line
+    ap (λ (n : Machine). n.board.defect) (sym c.in-Some.ensures.gives.after) ∙ c.lines_keep_the_board.ensures.defect m c.args.sheet.now.line

@@ -1,7 +1,7 @@
 use Rattle.std.proofs.Common.{◌≡◌, ◌<◌, ◌+◌, ◌++◌, ◌∙◌, refl, ap, arith, List, ℕ}
 use Rattle.std.specs.Io.KnownBytes.{prepend_known}
 use Rattle.mt_port.specs.Memory.{plain_left}
-use Rattle.mt_replay.specs.Machine.{Machine, machine}
+use Rattle.mt_machine.specs.Machine.{Machine, machine}
 use Rattle.mt_replay.proofs.Replays.{ReplayedAll, Replaying-none, Replaying-next, replaying_has, replayed_all, replayed_whole}
 use Rattle.mt_replay.proofs.replaying.replay_lines.Goals as goal
 use Rattle.mt_replay.proofs.replaying.replay_lines.Goals.{else-loop-number-test, then-loop-number-test+else-number-count}

@@ -2,7 +2,7 @@ use Rattle.std.proofs.Common.{◌≤◌, ◌+◌, ◌++◌, ◌*◌}
 use Rattle.std.specs.Io.KnownBytes.{prepend_known}
 use Rattle.mt_port.specs.Memory.{plain_left}
 use Rattle.mt_replay.specs.declared.form.Form.TheVariants.{Run}
-use Rattle.mt_replay.specs.Machine.{machine, IsReady}
+use Rattle.mt_machine.specs.Machine.{machine, IsReady}
 use Rattle.mt_replay.specs.Changes.{UsesBoard}
 use Rattle.mt_replay.specs.Inner.Comparing.{KeepsCause, IsDrained}
 use Rattle.mt_replay.proofs.Replays.{Replaying}

@@ -6,7 +6,7 @@ use Rattle.std.proofs.lemmas.Result.{on_ok_weaker}
 use Rattle.mt_port.specs.Inner.Streams.{Logs-nil}
 use Rattle.mt_replay.specs.declared.form.Form.{Form}
 use Rattle.mt_replay.specs.declared.form.Form.TheVariants as forms
-use Rattle.mt_replay.specs.Machine.{Machine, machine}
+use Rattle.mt_machine.specs.Machine.{Machine, machine}
 use Rattle.mt_replay.specs.Inner.Runs.{place, outputs, Answered, text_at}
 use Rattle.std.proofs.Common.{OnErr}
 use Rattle.mt_port.specs.Streams.{AppendsFront}

@@ -1,8 +1,7 @@
 use Rattle.std.proofs.Common.{◌∙◌, ap, sym}
 use Rattle.std.proofs.lemmas.Result.{on_ok_weaker, on_err_weaker}
 use Rattle.mt_port.specs.Inner.Streams.{Appends-nil}
-use Rattle.mt_replay.specs.Machine.{Machine, machine}
-use Rattle.mt_replay.proofs.Defects.{boards_stay, step-defect}
+use Rattle.mt_machine.specs.Machine.{Machine, machine}
 use Rattle.mt_replay.proofs.Turns.{played_line, played_front, silent_line}
 use Rattle.mt_replay.proofs.run.play_line.Goals as goal
 
@@ -25,14 +24,10 @@ returns-in-Some-clause-err g c =
 
 pub returns-in-None-clause-board : goal.returns-in-None-clause-board
 returns-in-None-clause-board g c =
-    let ram = c.running_calls_keep_the_board.ensures in
-    let fls = c.running_calls_keep_the_board-2.ensures in
     let m : Machine = machine (g.B.Port.state c.args.board.now) c.args.modules.now in
-    ap (λ (n : Machine). n.board.defect) (sym c.in-None.ensures.gives.after) ∙ step-defect (boards_stay ram.tick ram.full ram.partial fls.tick fls.foreground) m c.args.desk.now.line
+    ap (λ (n : Machine). n.board.defect) (sym c.in-None.ensures.gives.after) ∙ c.lines_keep_the_board.ensures.defect m c.args.desk.now.line
 
 pub returns-in-Some-clause-board : goal.returns-in-Some-clause-board
 returns-in-Some-clause-board g c =
-    let ram = c.running_calls_keep_the_board.ensures in
-    let fls = c.running_calls_keep_the_board-2.ensures in
     let m : Machine = machine (g.B.Port.state c.args.board.now) c.args.modules.now in
-    ap (λ (n : Machine). n.board.defect) (sym c.in-Some.ensures.gives.after) ∙ step-defect (boards_stay ram.tick ram.full ram.partial fls.tick fls.foreground) m c.args.desk.now.line
+    ap (λ (n : Machine). n.board.defect) (sym c.in-Some.ensures.gives.after) ∙ c.lines_keep_the_board.ensures.defect m c.args.desk.now.line

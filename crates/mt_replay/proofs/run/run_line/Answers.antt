@@ -1,6 +1,6 @@
 use Rattle.std.proofs.Common.{◌-◌, Ok, Err}
 use Rattle.mt_replay.specs.declared.run.End.TheVariants as end
-use Rattle.mt_replay.specs.Machine.{machine}
+use Rattle.mt_machine.specs.Machine.{machine}
 use Rattle.mt_replay.proofs.Runs.{whole_turn, last_turn, bare_end, end_is, long_is, broken_is}
 use Rattle.mt_replay.proofs.run.run_line.Goals as goal
 

@@ -1,6 +1,6 @@
 use Rattle.std.proofs.Common.{◌≡◌, ◌∙◌, refl, arith, ℕ, Ok, Err, subst}
 use Rattle.std.specs.Io.KnownBytes.{prepend_known}
-use Rattle.mt_replay.specs.Machine.{Machine, machine}
+use Rattle.mt_machine.specs.Machine.{Machine, machine}
 use Rattle.mt_replay.specs.Changes.{change}
 use Rattle.mt_replay.specs.Inner.Runs.{place, Goes}
 use Rattle.mt_replay.proofs.Runs.{UsesBoard-none, UsesBoard-then, Goes-none, Goes-goes, turn_ends, bare_end}

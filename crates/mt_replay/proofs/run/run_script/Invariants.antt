@@ -1,6 +1,6 @@
 use Rattle.std.proofs.Common.{◌≡◌}
 use Rattle.std.specs.Io.KnownBytes.{prepend_known}
-use Rattle.mt_replay.specs.Machine.{machine}
+use Rattle.mt_machine.specs.Machine.{machine}
 use Rattle.mt_replay.specs.Changes.{change, UsesBoard}
 use Rattle.mt_replay.specs.Inner.Runs.{place, Goes, IsReadyFor}
 use Rattle.mt_replay.proofs.run.run_script.Given as goal

@@ -1,7 +1,7 @@
 use Rattle.std.proofs.Common.{◌∙◌, List, ℕ, ap, subst}
 use Rattle.mt_conf.specs.declared.config.Config.{Config}
 use Rattle.mt_replay.specs.declared.status.Status.TheVariants as status
-use Rattle.mt_replay.specs.Machine.{Machine, machine, started}
+use Rattle.mt_machine.specs.Machine.{Machine, machine, started}
 use Rattle.mt_replay.specs.Soak.{summary_text}
 use Rattle.mt_replay.specs.Replay.{Told}
 use Rattle.mt_replay.proofs.Soaks.{soaked_gives, soaked_up, started_defect}

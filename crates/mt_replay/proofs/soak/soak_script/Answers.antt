@@ -5,7 +5,7 @@ use Rattle.mt_text.specs.declared.line.Line.{Line}
 use Rattle.mt_text.specs.Accepted.{IsAccepted}
 use Rattle.mt_gen.specs.declared.summary.Summary.{Summary}
 use Rattle.mt_gen.specs.Script.{job_shape, script}
-use Rattle.mt_replay.specs.Machine.{Machine, machine, step}
+use Rattle.mt_machine.specs.Machine.{Machine, machine, step}
 use Rattle.mt_replay.proofs.Soaks.{Soaking-none, Soaking-next, Soaking-all, ready_there, none-lines, none-ran, none-served, lines-with_line}
 use Rattle.mt_replay.proofs.soak.soak_script.Goals as goal
 

@@ -1,7 +1,7 @@
 use Rattle.std.proofs.Common.{◌≡◌, ◌+◌, ◌-◌, ◌*◌, ◌^◌, ◌≤◌, length, All}
 use Rattle.mt_text.specs.Accepted.{IsAccepted}
 use Rattle.mt_gen.specs.Script.{job_shape, script}
-use Rattle.mt_replay.specs.Machine.{machine, IsReady}
+use Rattle.mt_machine.specs.Machine.{machine, IsReady}
 use Rattle.mt_replay.proofs.Soaks.{Soaking}
 use Rattle.mt_replay.proofs.soak.soak_script.Given as goal
 

@@ -1,7 +1,6 @@
 use Rattle.std.proofs.Common.{length}
 use Rattle.std.specs.Io.KnownBytes.{prepend_known}
-use Rattle.mt_replay.specs.Machine.{Machine, machine}
-use Rattle.mt_replay.specs.Outcome.{played}
+use Rattle.mt_machine.specs.Machine.{Machine, machine, played}
 use Rattle.mt_replay.specs.Inner.Verifies.{trace_of}
 use Rattle.mt_replay.proofs.Traces.{replay_trace}
 use Rattle.mt_replay.proofs.Verifies.{judged_whole}

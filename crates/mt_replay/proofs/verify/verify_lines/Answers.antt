@@ -1,6 +1,6 @@
 use Rattle.std.proofs.Common.{ℕ, ◌∙◌, ap, subst, Err}
 use Rattle.std.specs.Io.KnownBytes.{prepend_known}
-use Rattle.mt_replay.specs.Machine.{Machine, machine}
+use Rattle.mt_machine.specs.Machine.{Machine, machine}
 use Rattle.mt_replay.specs.Inner.Comparing.{VerdictCaused}
 use Rattle.mt_replay.proofs.Soaks.{started_defect}
 use Rattle.mt_replay.proofs.Verifies.{stopped_gives, text_gives, nothing_gives}

@@ -20,15 +20,13 @@ pub returns-then-may : goal.returns-then-may
 unfolding dropped_at
 returns-then-may g c =
     let b = g.P.Port.state c.args.port.now in
+    let range = range_with_len 1 (c.args.slice.n + length (steps_of c.args.alg.now c.args.slice.n) - 1) in
     let count : c.made.result ≡ b.count = c.made.ensures in
-    let last : c.from.result + c.steps.result - 1 ≡ c.args.slice.n + length (steps_of c.args.alg.now c.args.slice.n) - 1 =
-    ap (λ (k : ℕ). c.from.result + k - 1) (c.steps.ensures.length ∙ ap (λ (k : ℕ). length (steps_of c.args.alg.now k)) c.from-2.ensures) ∙ ap (λ (k : ℕ). k + length (steps_of c.args.alg.now c.args.slice.n) - 1) c.from.ensures in
     c.first_moment.ensures
-    ∙ find_same (reached c.made.result c.next_urgent.result) (urgent b) (range_with_len 1 (c.from.result + c.steps.result - 1))
+    ∙ find_same (reached c.made.result c.next_urgent.result) (urgent b) range
     (λ i. ap (λ (k : ℕ). is_due (k + i) c.next_urgent.result) count ∙ sym (c.next_urgent.ensures (b.count + i)))
-    ∙ ap (λ (k : ℕ). find (urgent b) (range_with_len 1 k)) last
-    ∙ sym (ap (λ (p : Policy). if c.args.may && keeps_words p then find (urgent b) (range_with_len 1 (c.args.slice.n + length (steps_of c.args.alg.now c.args.slice.n) - 1)) else None) c.in-NonDestructive.is
-    ∙ ap (λ (m : Bool). if m && true then find (urgent b) (range_with_len 1 (c.args.slice.n + length (steps_of c.args.alg.now c.args.slice.n) - 1)) else None) c.if-may.true)
+    ∙ sym (ap (λ (p : Policy). if c.args.may && keeps_words p then find (urgent b) range else None) c.in-NonDestructive.is
+    ∙ ap (λ (m : Bool). if m && true then find (urgent b) range else None) c.if-may.true)
 
 pub returns-else-may : goal.returns-else-may
 unfolding dropped_at

@@ -7,6 +7,7 @@ use Rattle.mt_blocks.specs.Laws.{word_count}
 use Rattle.mt_blocks.specs.Accepted.{IsAcceptedSet}
 use Rattle.mt_ram.specs.State.{RamTst, set_of, spans_in}
 use Rattle.mt_ram.specs.Event.{with_result, of_test, job_of}
+use Rattle.mt_ram.specs.Results.{failed_after}
 use Rattle.mt_ram.specs.TestWalks.{CanGoBack, is_whole}
 use Rattle.mt_ram.proofs.Walks.{next_of_test, first_is, rest_is, hold_of_piece}
 use Rattle.mt_ram.proofs.test_walk.TestWalkWalkRam.take.Goals as goal
@@ -18,7 +19,7 @@ returns-clause-fits c =
     let f = c.requires.fits in
     let at = c.in-Some.at in
     let n = next_of_test w r at c.passes_go_on.ensures f c.in-Some.is in
-    let e = c.take_result.ensures in
+    let e = c.take_result-last.ensures.leaves in
     let next : c.next_of_test-self.result ≡ next_in (is_whole w.name) (set_of r).atomic (spans_in r) at =
     c.next_of_test-self.ensures ∙ ap (λ (b : Bool). next_in b (set_of r).atomic (spans_in r) at) c.is_whole.ensures in
     record {
@@ -36,7 +37,7 @@ returns-clause-left c = λ x more s.
     let n = next_of_test w r at c.passes_go_on.ensures c.requires.fits c.in-Some.is in
     let next : c.next_of_test-self.result ≡ next_in (is_whole w.name) (set_of r).atomic (spans_in r) at =
     c.next_of_test-self.ensures ∙ ap (λ (b : Bool). next_in b (set_of r).atomic (spans_in r) at) c.is_whole.ensures in
-    ap (λ (z : RamTst). test_rest (is_whole w.name) (set_of z).atomic (spans_in z) c.next_of_test-self.result) c.take_result.ensures
+    ap (λ (z : RamTst). test_rest (is_whole w.name) (set_of z).atomic (spans_in z) c.next_of_test-self.result) c.take_result-last.ensures.leaves
     ∙ ap (λ (o : Option Position). test_rest (is_whole w.name) (set_of r).atomic (spans_in r) o) next
     ∙ rest_is _ x _ more _ n.split s
 
@@ -45,14 +46,14 @@ returns-clause-failed c = λ x more s.
     let r = c.args.callee.now in
     let w = c.args.self.now in
     let n = next_of_test w r c.in-Some.at c.passes_go_on.ensures c.requires.fits c.in-Some.is in
-    c.failed_after-failed.ensures ∙ ap (λ (p : Piece). of_test.failed p c.args.verdict w.failed) (first_is _ x _ more _ n.split s)
+    c.keep_failed-self.ensures ∙ ap (λ (b : Bool). failed_after c.args.verdict w.failed b) c.take_result-last.ensures.last ∙ ap (λ (p : Piece). of_test.failed p c.args.verdict w.failed) (first_is _ x _ more _ n.split s)
 
 pub returns-clause-callee : goal.returns-clause-callee
 returns-clause-callee c = λ x more s.
     let r = c.args.callee.now in
     let w = c.args.self.now in
     let n = next_of_test w r c.in-Some.at c.passes_go_on.ensures c.requires.fits c.in-Some.is in
-    c.take_result.ensures ∙ ap (λ (p : Piece). with_result r p c.args.verdict w.failed) (first_is _ x _ more _ n.split s)
+    c.take_result-last.ensures.leaves ∙ ap (λ (p : Piece). with_result r p c.args.verdict w.failed) (first_is _ x _ more _ n.split s)
 
 pub returns-clause-most : goal.returns-clause-most
 returns-clause-most c = λ x more s.

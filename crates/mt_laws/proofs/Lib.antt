@@ -1,0 +1,17 @@
+mod Latencies
+mod Pieces
+mod Phases
+mod Memories
+mod Scenes
+mod SceneEvents
+mod PassRows
+mod PassEvents
+mod PassTicks
+mod PassParts
+mod SetsStay
+mod SoundBoards
+mod Plain
+mod PlainMemories
+mod PassLines
+mod PassSteps
+mod Detects

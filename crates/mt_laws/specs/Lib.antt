@@ -1,0 +1,4 @@
+pub mod Latency
+pub mod Plain
+pub mod Memory
+pub mod Detection

@@ -1,0 +1,12 @@
+//! The promises of a replay, over the steps of a machine: its requests wait little, its tests disturb nothing, and an undisturbed
+//! pass finds each fault that the table of coverage names.
+//!
+//! Each law is the contract of a function. It speaks of accepted lines and an accepted configuration, and not of bytes; `replay`
+//! says it of the jobs that it reads.
+#![tactic(auto)]
+
+mod laws;
+
+pub use laws::{
+    memory_is_plain, passes_find_faults, requests_are_served_in_time, tests_leave_no_trace,
+};

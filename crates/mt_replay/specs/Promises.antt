@@ -1,0 +1,69 @@
+-- What is promised of each replay, whatever bytes a job has.
+use Rattle.std.specs.Prelude.{ℕ, ◌≡◌, ◌≤◌, List, ◌++◌, length, All, Option, None, Ok}
+use Rattle.mt_fault.specs.declared.fault.Fault.{Fault}
+use Rattle.mt_blocks.specs.Slices.{Piece}
+use Rattle.mt_ram.specs.State.{set_of}
+use Rattle.mt_text.specs.declared.line.Line.{Line}
+use Rattle.mt_conf.specs.declared.config.Config.{Config}
+use Rattle.mt_conf.specs.Outcome.{outcome as config_of}
+use Rattle.mt_machine.specs.Machine.{Machine, started, played, played_by}
+use Rattle.mt_laws.specs.Latency.{ServesInTime}
+use Rattle.mt_laws.specs.Plain.{InjectsNothing, plain_step}
+use Rattle.mt_laws.specs.Memory.{ArePlain}
+use Rattle.mt_laws.specs.Detection.{IsCaught, IsUndisturbedPass, IsNotOkBehind}
+use Rattle.mt_replay.specs.declared.form.Ask.{Ask}
+use Rattle.mt_replay.specs.declared.form.Form.{Form}
+use Rattle.mt_replay.specs.declared.form.Form.TheVariants as forms
+use Rattle.mt_replay.specs.Input.{Ending, Cut, Parted, job_of}
+use Rattle.mt_replay.specs.Script.{Script, script_from}
+use Rattle.mt_replay.specs.Outcome.{outcome, scripted, steps_text, end_text}
+use Rattle.mt_replay.specs.Soak.{soaked}
+use Rattle.mt_replay.specs.Ticks.{TicksAreLeast}
+use Rattle.mt_replay.specs.Verify.{verifying}
+
+-- the text of a replay is that of its steps, line by line, and then one line on how it ended
+abbrev pub TracesAreOfSteps : Type 0
+TracesAreOfSteps = (config : Config) (m : Machine) (script : Script)
+    → (scripted forms.Run config m script).text ≡ steps_text config.shape 1 (scripted forms.Run config m script).steps ++ end_text forms.Run config script.end
+
+-- Bytes are a job: the text of a configuration that is accepted, a separator, and a script.
+pub record IsJob (ending : Ending) (bytes : List ℕ) (c : Config) (script : Cut) : Type 0 where
+  pub text : List ℕ
+  pub parts : job_of ending bytes ≡ Parted text script
+  pub accepted : config_of text ≡ Ok c
+  pub short : length text ≤ 65536
+
+-- the lines of its script that are taken
+abbrev pub lines_of : Config → Ending → Cut → List Line
+lines_of c ending script = (script_from c.shape ending 1 script).lines
+
+-- Each step of a replay serves its requests in time: of a job that is run or verified, and of a generated job.
+pub record AreServedInTime (defect : Option Fault) : Type 0 where
+  pub jobs : (form : Form) (ending : Ending) (bytes : List ℕ) → All ServesInTime (outcome form ending defect bytes).steps
+  pub verified : (ending : Ending) (bytes : List ℕ) → All ServesInTime (verifying defect ending bytes).steps
+  pub generated : (number : ℕ) → All ServesInTime (soaked number defect).steps
+
+-- the board has no fault at the start, and no line injects one
+pub record IsSoundReplay (defect : Option Fault) (c : Config) (lines : List Line) : Type 0 where
+  pub start : (started c defect).board.fault ≡ None
+  pub injects : All InjectsNothing lines
+
+-- On sound memory no test of a replay touches a word of the application, but that destructive blocks are filled: its steps are those in which
+-- no test touches a word, and the application finds a plain memory on which its operations and these fills are done.
+pub record LeavesNoTrace (defect : Option Fault) : Type 0 where
+  pub steps : (ending : Ending) (bytes : List ℕ) (c : Config) (script : Cut) → IsJob ending bytes c script → IsSoundReplay defect c (lines_of c ending script)
+      → (outcome forms.Run ending defect bytes).steps ≡ (played_by plain_step (started c defect) (lines_of c ending script)).steps
+  pub memory : (ending : Ending) (bytes : List ℕ) (c : Config) (script : Cut) → IsJob ending bytes c script → IsSoundReplay defect c (lines_of c ending script)
+      → ArePlain (started c defect) (lines_of c ending script) (outcome forms.Run ending defect bytes).steps
+
+-- Where a pass of a replay runs undisturbed over a fault that its algorithm catches, the block of its slice is NOT_OK behind it.
+pub record FindsFaults (defect : Option Fault) : Type 0 where
+  pub jobs : (ending : Ending) (bytes : List ℕ) (c : Config) (script : Cut) → IsJob ending bytes c script
+      → (before lines behind : List Line) → lines_of c ending script ≡ before ++ lines ++ behind
+      → (fault : Fault) (p : Piece) → IsCaught (set_of (played (started c defect) before).after.modules.ram) p fault
+      → IsUndisturbedPass fault (played (started c defect) before).after lines
+      → IsNotOkBehind (outcome forms.Run ending defect bytes).steps (length (before ++ lines)) p.place.block
+
+-- Whatever cuts of a set are asked for, no cut under the budget has fewer ticks than are told.
+abbrev pub TellsLeastTicks : Option Fault → Type 0
+TellsLeastTicks defect = (ask : Ask) → TicksAreLeast ask defect
