@@ -54,6 +54,13 @@ pub fn spelled_lines_have_their_tokens()
         → AreOfLine shape.width line (bytes_of tokens) }
 {}
 
+/// The tokens of an accepted line spell it, with any digits that spell its words and with brackets round an empty handler or
+/// none.
+pub fn tokens_of_a_line_spell_it()
+    ensures { (shape : Shape) (tokens : List Token) (line : Line) → IsWithinLimits shape → IsAccepted shape line
+        → AreOfLine shape.width line (bytes_of tokens) → SpellsTokens shape tokens line }
+{}
+
 /// A refusal of a token is `Spelling` just where no line has, after the tokens before it, a token of its kind. The
 /// tokens of a line are of its kinds.
 pub fn spelling_is_a_token_of_no_line()
