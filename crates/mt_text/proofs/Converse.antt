@@ -1,10 +1,8 @@
 -- The tokens of an accepted line spell it, in whatever digits its words are written, and with brackets round an empty handler or none.
-use Rattle.std.proofs.Common.{◌≡◌, ℕ, ◌+◌, ◌≤◌, List, [], ◌∷◌, ◌++◌, length, Option, Some, None, refl, sym, ap, subst, ◌∙◌, ◌⊎◌, inl, inr, arith, codes, append_assoc, length-append}
+use Rattle.std.proofs.Common.{◌≡◌, ℕ, ◌+◌, ◌≤◌, List, [], ◌∷◌, ◌++◌, length, Option, Some, None, refl, sym, ap, subst, ◌∙◌, inl, inr, arith, append_assoc, length-append}
 use Rattle.std.proofs.lemmas.List.{append-nil}
 use Rattle.std.proofs.lemmas.List.Elements.{All-head, All-tail}
 use Rattle.std.specs.List.{All}
-use Rattle.std.specs.Fmt.{decimal}
-use Rattle.mt_word.specs.declared.Width.{Width}
 use Rattle.mt_port.specs.declared.board.Shape.{Shape}
 use Rattle.mt_port.specs.declared.request.Module.{Module}
 use Rattle.mt_port.specs.declared.request.HandlerOp.{HandlerOp}
@@ -19,12 +17,12 @@ use Rattle.mt_text.specs.Kinds as kinds
 use Rattle.mt_text.specs.Forms.{Form, done}
 use Rattle.mt_text.specs.Lines.{Part, Start, Ended, Requests, Handler, Open, Operation, Separator, event, follows, followed, running_module, request, line, last_offset, SpellsTokens}
 use Rattle.mt_text.specs.Accepted.{AreFor, IsAccepted, IsRequest, IsSoundEvent}
-use Rattle.mt_text.specs.Canonical.{event_words_by, op_words_by}
-use Rattle.mt_text.specs.LineTokens.{AreOfEvent, AreOfLine, AreOfOp, AreOfFurther, AreOfOpened, AreOfHandler, AreOfRequests}
+use Rattle.mt_text.specs.Canonical.{event_words_by}
+use Rattle.mt_text.specs.LineTokens.{AreOfEvent, AreOfLine, AreOfFurther, AreOfOpened, AreOfRequests}
 use Rattle.mt_text.proofs.Leading.{Follows, follows_mapped, from_part, leads_of_path, Path, path_append}
 use Rattle.mt_text.proofs.Pieces.{bytes_of}
 use Rattle.mt_text.proofs.Spellings.{event_follows, IsSome}
-use Rattle.mt_text.proofs.RequestPaths.{IsGoodOp, AreNext, Leads, Waits, operation_path, open_path, good_ops, one_less, joined, marked, waits_behind_mark, waits, least_of, mark_of, mark_text}
+use Rattle.mt_text.proofs.RequestPaths.{IsGoodOp, AreNext, Leads, Waits, operation_path, open_path, good_ops, one_less, joined, marked, waits_behind_mark, waits, least_of, mark_of}
 
 module _ (shape : Shape) (m : Module) (ev : Event) (limits : IsWithinLimits shape) where
   -- further operations of a handler

@@ -30,7 +30,7 @@ use Rattle.mt_text.specs.Lines.{app_op, op_form, Part, Requests, Handler, Open, 
 use Rattle.mt_text.specs.Accepted.{IsNumber, IsHandlerCall, IsFor, IsRequest}
 use Rattle.mt_hex.specs.Digits.{word_text}
 use Rattle.mt_text.specs.LineTokens.{IsWriting}
-use Rattle.mt_text.specs.Canonical.{Piece, app_words, app_words_by, call_words, op_words, op_words_by, words, text_of, further_ops, handler_pieces, requests_pieces}
+use Rattle.mt_text.specs.Canonical.{Piece, app_words_by, call_words, op_words, op_words_by, words, text_of, further_ops, handler_pieces, requests_pieces}
 use Rattle.mt_text.proofs.Numbers.{number_of_text}
 use Rattle.mt_text.proofs.Pieces.{pieces_of, pieces_of_words, AreWords, AreApart, apart_words}
 use Rattle.mt_text.proofs.Leading.{Follows, follows_mapped, value_step, Path, from_part, path_append}

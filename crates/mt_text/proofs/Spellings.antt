@@ -22,7 +22,6 @@ use Rattle.mt_text.specs.RamServices.{ram_call}
 use Rattle.mt_text.specs.FlsServices.{fls_call}
 use Rattle.mt_text.specs.Lines.{app_op, fault, event}
 use Rattle.mt_text.specs.Accepted.{IsRamCall, IsFlsCall, IsSoundEvent}
-use Rattle.mt_hex.specs.Digits.{word_text}
 use Rattle.mt_text.specs.LineTokens.{IsWriting}
 use Rattle.mt_text.specs.Canonical.{ram_words, fls_words, app_words, app_words_by, fault_words, fault_words_by, event_words, event_words_by, spot_text, bit_text, direction_text, wiring_text}
 use Rattle.mt_text.proofs.Pieces.{AreWords, is_text}
