@@ -1,9 +1,9 @@
 -- The fields of a table, by what the rules on its keys and values say.
-use Rattle.std.proofs.Common.{◌≡◌, ◌⊎◌, ℕ, ℤ, pos, Bool, true, false, cond, List, [], ◌∷◌, map, Option, Some, None, refl, sym, subst, ap, ◌∙◌, inl, inr}
+use Rattle.std.proofs.Common.{◌≡◌, ◌⊎◌, ℕ, pos, Bool, true, false, cond, List, [], ◌∷◌, map, Option, Some, None, refl, sym, ap, inl, inr}
 use Rattle.std.specs.Prelude.{not, ◌&&◌, is_some, is_none, option_and_then, unwrap_or}
 use Rattle.std.specs.List.{list_all, AllByRecursion}
 use Rattle.std.proofs.lemmas.Bool.{and_parts}
-use Rattle.toml.specs.Data.{Data, string, integer, float, boolean, datetime, array, table, Items, Members, as_integer, as_str, as_array, as_table, get_member}
+use Rattle.toml.specs.Data.{Data, string, integer, float, boolean, datetime, array, table, Items, Members, as_integer, as_str, as_array, get_member}
 use Rattle.mt_word.specs.declared.Width.{Width}
 use Rattle.mt_word.specs.declared.Width.TheVariants.{W8, W16, W32, W64}
 use Rattle.mt_hex.specs.Hex.{word_of}

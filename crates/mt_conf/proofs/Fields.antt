@@ -1,10 +1,10 @@
 -- Each field of a configuration is the table's entry of that name, or its default.
-use Rattle.std.proofs.Common.{◌≡◌, ◌⊎◌, ℕ, ℤ, pos, ◌≤◌, Bool, true, false, cond, List, [], ◌∷◌, Option, Some, None, refl, sym, ap, ◌∙◌, arith, inl, inr}
+use Rattle.std.proofs.Common.{◌≡◌, ◌⊎◌, ℕ, ℤ, pos, ◌≤◌, Bool, true, false, cond, List, [], ◌∷◌, Option, Some, None, refl, sym, ap, arith, inl, inr}
 use Rattle.std.specs.Prelude.{codes, not, ◌&&◌, ◌||◌, is_none, is_some, option_and_then, unwrap_or}
 use Rattle.std.specs.List.{list_all, AllByRecursion}
 use Rattle.std.specs.Ordering.{int_eq}
 use Rattle.std.specs.Str.{bytes_eq}
-use Rattle.std.proofs.lemmas.Bool.{and_parts, or_parts}
+use Rattle.std.proofs.lemmas.Bool.{or_parts}
 use Rattle.std.proofs.lemmas.Bool.Decides.{Decides-int_eq}
 use Rattle.std.proofs.lemmas.Slice.Eq.{bytes_eq-Decides}
 use Rattle.toml.specs.Data.{Data, as_integer, string, integer, float, boolean, datetime, array, table, Members, as_table, as_str, get_member}
@@ -19,21 +19,20 @@ use Rattle.mt_march.specs.Reading.{march_refusal}
 use Rattle.mt_march.specs.Value.{march_of}
 use Rattle.mt_plan.specs.declared.algorithm.Algorithm.TheVariants.{Checkerboard, March as Marches, WalkPath, Galpat, TransparentGalpat}
 use Rattle.mt_plan.specs.declared.algorithm.Policy.TheVariants.{NonDestructive, Destructive}
-use Rattle.mt_conf.specs.declared.schema.Part.{Part}
 use Rattle.mt_conf.specs.declared.schema.Part.TheVariants.{Top, Set, Block, Fls, FlashBlock}
 use Rattle.mt_conf.specs.declared.schema.Otherwise.TheVariants.{MarchCMinus, NoFlashTest}
 use Rattle.mt_conf.specs.Lookup.{has_key, has_text, number_or, text_or, number_at, text_at, array_at, fields}
-use Rattle.mt_conf.specs.Rules.{any_block, any_at, any_in_set, any_in_fls, in_option, lacks_key, has_wrong_type, wrong_version, is_version, wrong_width, width_of, width_at, no_word, wrong_word_in_set, wrong_policy, idle_march, wrong_algorithm_in_set, is_named, wrong_cells, wrong_retries, wrong_cells_in_set, is_within, wrong_flash_block, wrong_fls, wrong_range}
-use Rattle.mt_conf.specs.Outcome.{small, block_of, march_with, march_at, algorithm_at, set_of, flash_block_of, fls_of, no_fls, fls_or, fls_at, shape_of, version_at, config_of, first_broken}
+use Rattle.mt_conf.specs.Rules.{any_block, any_at, any_in_fls, in_option, lacks_key, has_wrong_type, wrong_version, is_version, wrong_width, width_at, no_word, wrong_word_in_set, wrong_policy, idle_march, wrong_algorithm_in_set, is_named, wrong_cells, wrong_retries, is_within, wrong_flash_block, wrong_fls}
+use Rattle.mt_conf.specs.Outcome.{small, block_of, march_at, algorithm_at, set_of, flash_block_of, fls_of, no_fls, fls_or, fls_at, shape_of, version_at, config_of, first_broken}
 use Rattle.mt_conf.specs.Canonical.{algorithm_name, policy_name}
-use Rattle.mt_conf.specs.Fields.{IsField, HasMarch, IsBlock, IsSet, IsFlashBlock, IsFls, IsOfTable}
+use Rattle.mt_conf.specs.Fields.{HasMarch, IsBlock, IsSet, IsFlashBlock, IsFls, IsOfTable}
 use Rattle.mt_conf.proofs.Numbers.{not_false, within, cells_exact}
-use Rattle.mt_conf.proofs.Tables.{is_table, here, each}
+use Rattle.mt_conf.proofs.Tables.{is_table, each}
 use Rattle.mt_conf.proofs.Apart.{IsExact}
 use Rattle.mt_conf.proofs.Sets.{SetFacts, IsUnrefused, block_tables, blocks_exact, set_rule}
-use Rattle.mt_conf.proofs.FlashBlocks.{BlockSizes, block_sizes, fls_types, fls_ranges, flash_tables}
-use Rattle.mt_conf.proofs.Entries.{needed_number, optional_number, there_text, needed_name, optional_word, some_tables}
-use Rattle.mt_conf.proofs.Taken.{Facts, facts, set_facts, none_missing, well_typed}
+use Rattle.mt_conf.proofs.FlashBlocks.{block_sizes, fls_ranges, flash_tables}
+use Rattle.mt_conf.proofs.Entries.{needed_number, optional_number, needed_name, optional_word, some_tables}
+use Rattle.mt_conf.proofs.Taken.{facts, set_facts, none_missing, well_typed}
 
 same_bytes : (a b : List ℕ) → bytes_eq a b ≡ true → a ≡ b
 same_bytes a b h = (bytes_eq-Decides a b).0 h

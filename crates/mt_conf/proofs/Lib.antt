@@ -12,3 +12,10 @@ pub mod Taken
 pub mod Fields
 pub mod Parts
 pub mod Example
+pub mod LeastNumber
+pub mod Keyed
+pub mod Accepting
+pub mod AcceptedKeys
+pub mod AcceptedValues
+pub mod AcceptedMarches
+pub mod AcceptedSets

@@ -87,7 +87,7 @@ apart a b c d ea eb ec ed h = nat_apart (small a) (small b) (small c) (small d) 
 less : (a f : ℕ) → f ≤ a → pos a -ℤ pos f ≡ pos (a - f)
 less a f h = omega (arith, ints)
 
-copy_nat : (c f l : ℕ) → f ≤ l → pos c +ℤ pos l -ℤ pos f ≡ pos (c + (l - f))
+pub copy_nat : (c f l : ℕ) → f ≤ l → pos c +ℤ pos l -ℤ pos f ≡ pos (c + (l - f))
 copy_nat c f l h = less (c + l) f (omega arith) ∙ ap pos (omega arith)
 
 -- the numbers of a block whose copy is within a limit

@@ -1,5 +1,5 @@
 -- Configurations that the modules take.
-use Rattle.std.specs.Prelude.{ℕ, ◌≡◌, ◌≢◌, ◌⊎◌, All}
+use Rattle.std.specs.Prelude.{◌≡◌, ◌≢◌, ◌⊎◌, All}
 use Rattle.mt_word.specs.declared.Width.TheVariants.{W64}
 use Rattle.mt_word.specs.Word.{Fits}
 use Rattle.mt_port.specs.Board.{IsWithinLimits}

@@ -1,5 +1,5 @@
 -- What a configuration has for each key of its tables: the entry of that name, or the default of the key's row.
-use Rattle.std.specs.Prelude.{ℕ, pos, ◌≡◌, ◌⊎◌, List, [], ◌∷◌, codes, Option, Some, None}
+use Rattle.std.specs.Prelude.{ℕ, pos, ◌≡◌, ◌⊎◌, List, [], ◌∷◌, codes, Some, None}
 use Rattle.toml.specs.Data.{Data, integer, string, array, table, Items, Members, get_member}
 use Rattle.mt_word.specs.declared.Width.{Width}
 use Rattle.mt_word.specs.Word.{width_bits}
@@ -7,7 +7,7 @@ use Rattle.mt_hex.specs.Hex.{word_of}
 use Rattle.mt_march.specs.Grammar.{SpellsMarch}
 use Rattle.mt_march.specs.Known.{march_c_minus}
 use Rattle.mt_plan.specs.declared.algorithm.Algorithm.{Algorithm}
-use Rattle.mt_plan.specs.declared.algorithm.Algorithm.TheVariants.{Checkerboard, March as Marches, WalkPath, Galpat, TransparentGalpat}
+use Rattle.mt_plan.specs.declared.algorithm.Algorithm.TheVariants.{March as Marches}
 use Rattle.mt_blocks.specs.declared.config.Block.{Block as RamBlock}
 use Rattle.mt_blocks.specs.declared.config.FlashBlock.{FlashBlock as CopiedBlock}
 use Rattle.mt_blocks.specs.declared.config.ParamSet.{ParamSet}

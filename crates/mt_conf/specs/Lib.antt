@@ -6,4 +6,5 @@ pub mod Outcome
 pub mod Accepted
 pub mod Canonical
 pub mod Fields
+pub mod Keys
 pub mod Laws

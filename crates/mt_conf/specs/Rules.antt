@@ -1,5 +1,5 @@
 -- The rules, each a test of the whole table: true where it is broken.
-use Rattle.std.specs.Prelude.{ℕ, ◌+◌, ◌-◌, ℤ, ◌+ℤ◌, ◌-ℤ◌, pos, negsuc, int_lt, int_le, nat_lt, nat_le, List, [], ◌∷◌, length, map, codes, Bool, false, not, ◌&&◌, ◌||◌, if◌then◌else◌, Option, Some, None, is_none, is_some, unwrap_or, ◌^◌}
+use Rattle.std.specs.Prelude.{ℕ, ℤ, ◌+ℤ◌, ◌-ℤ◌, pos, int_lt, int_le, nat_lt, nat_le, List, [], ◌∷◌, length, map, codes, Bool, false, not, ◌&&◌, ◌||◌, if◌then◌else◌, Option, Some, None, is_none, is_some, unwrap_or}
 use Rattle.std.specs.List.{list_any, list_all}
 use Rattle.std.specs.Ordering.{int_eq}
 use Rattle.std.specs.Str.{bytes_eq}

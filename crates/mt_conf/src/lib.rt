@@ -14,7 +14,10 @@ mod values;
 mod writing;
 
 pub use config::{Config, ConfigRefusal};
-pub use laws::{accepted_is_taken, fields_are_entries, refusal_is_least};
+pub use laws::{
+    accepted_is_taken, accepted_keys_are_listed, each_is_accepted, fields_are_entries,
+    refusal_is_least, the_least_number_is_told,
+};
 pub use reading::read_config;
 pub use writing::write_config;
 

@@ -21,3 +21,6 @@ pub mod SpellingLaws
 pub mod TraceLemmas
 pub mod LeastRules
 pub mod TokensOfLines
+pub mod Converse
+pub mod Cutting
+pub mod TraceNames

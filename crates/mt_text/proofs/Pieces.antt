@@ -32,7 +32,7 @@ abbrev pub pieces_of : List Piece → List (List ℕ)
 pieces_of [] = []
 pieces_of (p ∷ ps) = p.bytes ∷ pieces_of ps
 
-word_then : (place b : ℕ) (bs rest : List ℕ) → list_all is_word (b ∷ bs) ≡ true → begins_word rest ≡ false
+pub word_then : (place b : ℕ) (bs rest : List ℕ) → list_all is_word (b ∷ bs) ≡ true → begins_word rest ≡ false
     → tokens place ((b ∷ bs) ++ rest) ≡ record { place = place; bytes = b ∷ bs } ∷ tokens (place + suc (length bs)) rest
 word_then place b [] rest all apart = word_ends place b rest (both (is_word b) true all).0 apart
 word_then place b (c ∷ cs) rest all apart =

@@ -14,6 +14,8 @@ use Rattle.mt_text.specs.Accepted.{IsSoundEvent, AreFor, IsAccepted}
 use Rattle.mt_text.specs.Canonical.{Piece, words, event_words, requests_pieces, text_of, canonical}
 use Rattle.mt_text.proofs.Pieces.{bytes_of, pieces_of, pieces_tokens, pieces_of_words, apart_words, AreApart}
 use Rattle.mt_text.proofs.Leading.{Follows, follows_mapped, Path, from_part, path_append, leads_of_path}
+use Rattle.mt_hex.specs.Digits.{word_text}
+use Rattle.mt_text.proofs.Values.{canonical_writes}
 use Rattle.mt_text.proofs.Spellings.{event_follows, event_are_words, IsSome}
 use Rattle.mt_text.proofs.RequestPaths.{Leads, all_requests, requests_begin, requests_apart}
 
@@ -58,7 +60,7 @@ event_some shape (Burn a x) s = (_, _, refl)
 event_some shape (Flip v) s = (_, _, refl)
 
 event_path : (shape : Shape) (ev : Event) → IsWithinLimits shape → IsSoundEvent shape ev → IsSome ev → Path shape (done Start) (event_words shape.width ev) (done (follows ev))
-event_path shape ev w h s = let m = event_some shape ev s in start_path shape ev (event_words shape.width ev) m.0 m.1 m.2 (event_follows shape ev w h s)
+event_path shape ev w h s = let m = event_some shape ev s in start_path shape ev (event_words shape.width ev) m.0 m.1 m.2 (event_follows shape (word_text shape.width) (canonical_writes shape.width) ev w h s)
 
 -- behind the event
 behind_event : (shape : Shape) (ev : Event) (o : Option Module) (rs : List Request) → IsWithinLimits shape → AreSoundRequests shape rs → AreFor o rs → Leads shape ev (followed ev o) (pieces_of (requests_pieces shape.width rs)) rs

@@ -1,5 +1,5 @@
 -- The words of a canonical line lead through the table.
-use Rattle.std.proofs.Common.{◌≡◌, ℕ, ◌<◌, ◌≤◌, Bool, true, false, refl, arith}
+use Rattle.std.proofs.Common.{◌≡◌, ℕ, List, ◌<◌, ◌≤◌, Bool, true, false, refl, arith}
 use Rattle.std.specs.Fmt.{decimal}
 use Rattle.mt_word.specs.declared.Width.{Width}
 use Rattle.mt_fault.specs.declared.fault.Spot.{Spot}
@@ -22,11 +22,11 @@ use Rattle.mt_text.specs.RamServices.{ram_call}
 use Rattle.mt_text.specs.FlsServices.{fls_call}
 use Rattle.mt_text.specs.Lines.{app_op, fault, event}
 use Rattle.mt_text.specs.Accepted.{IsRamCall, IsFlsCall, IsSoundEvent}
-use Rattle.mt_hex.specs.Digits.{word_text}
-use Rattle.mt_text.specs.Canonical.{ram_words, fls_words, app_words, fault_words, event_words, spot_text, bit_text, direction_text, wiring_text}
+use Rattle.mt_text.specs.LineTokens.{IsWriting}
+use Rattle.mt_text.specs.Canonical.{ram_words, fls_words, app_words, app_words_by, fault_words, fault_words_by, event_words, event_words_by, spot_text, bit_text, direction_text, wiring_text}
 use Rattle.mt_text.proofs.Pieces.{AreWords, is_text}
 use Rattle.mt_text.proofs.Leading.{Follows, follows_mapped, value_step, spot_step}
-use Rattle.mt_text.proofs.Values.{decimal_is_text, word_is_text, spot_is_text, spot_small, num_reads, addr_reads, flash_reads, other_reads, data_reads, spot_reads, other_spot_reads, flash_spot_reads}
+use Rattle.mt_text.proofs.Values.{decimal_is_text, word_is_text, spot_is_text, spot_small, num_reads, addr_reads, flash_reads, other_reads, written_reads, spot_reads, other_spot_reads, flash_spot_reads}
 
 -- ---- services
 
@@ -98,13 +98,13 @@ fls_are_words fls.GetVersionInfo h = (refl, tt)
 
 -- ---- application operations
 
-pub app_follows : (shape : Shape) (op : AppOp) → IsWithinLimits shape → IsSoundOp shape op → Follows shape app_op (app_words shape.width op) (done op)
+pub app_follows : (shape : Shape) (write : ℕ → List ℕ) → IsWriting shape.width write → (op : AppOp) → IsWithinLimits shape → IsSoundOp shape op → Follows shape app_op (app_words_by write op) (done op)
 unfolding app_op
-app_follows shape (Read a) w h = (_, refl, (_, value_step shape Addr _ (decimal a) a (addr_reads shape a w h), refl))
-app_follows shape (Write a x) w h = (_, refl, (_, value_step shape Addr _ (decimal a) a (addr_reads shape a w h.0), (_, value_step shape Data _ (word_text shape.width x) x (data_reads shape x h.1), refl)))
-app_follows shape (Add a x) w h = (_, refl, (_, value_step shape Addr _ (decimal a) a (addr_reads shape a w h.0), (_, value_step shape Data _ (word_text shape.width x) x (data_reads shape x h.1), refl)))
-app_follows shape (Copy a b) w h = (_, refl, (_, value_step shape Addr _ (decimal a) a (addr_reads shape a w h.0), (_, value_step shape Addr _ (decimal b) b (addr_reads shape b w h.1), refl)))
-app_follows shape (Flash a) w h = (_, refl, (_, value_step shape FlashAddr _ (decimal a) a (flash_reads shape a w h), refl))
+app_follows shape write writes (Read a) w h = (_, refl, (_, value_step shape Addr _ (decimal a) a (addr_reads shape a w h), refl))
+app_follows shape write writes (Write a x) w h = (_, refl, (_, value_step shape Addr _ (decimal a) a (addr_reads shape a w h.0), (_, value_step shape Data _ (write x) x (written_reads shape write writes x h.1), refl)))
+app_follows shape write writes (Add a x) w h = (_, refl, (_, value_step shape Addr _ (decimal a) a (addr_reads shape a w h.0), (_, value_step shape Data _ (write x) x (written_reads shape write writes x h.1), refl)))
+app_follows shape write writes (Copy a b) w h = (_, refl, (_, value_step shape Addr _ (decimal a) a (addr_reads shape a w h.0), (_, value_step shape Addr _ (decimal b) b (addr_reads shape b w h.1), refl)))
+app_follows shape write writes (Flash a) w h = (_, refl, (_, value_step shape FlashAddr _ (decimal a) a (flash_reads shape a w h), refl))
 
 in_ram : (shape : Shape) (a : ℕ) → IsWithinLimits shape → a < shape.ram → is_text (decimal a) ≡ true
 in_ram shape a w h = let l = w.ram in decimal_is_text a (omega arith)
@@ -121,26 +121,26 @@ app_are_words shape (Flash a) w h = (refl, (in_flash shape a w h, tt))
 
 -- ---- faults
 
-pub fault_follows : (shape : Shape) (f : Fault) → IsWithinLimits shape → IsWellPlaced shape.width shape.ram f → Follows shape fault (fault_words shape.width f) (done f)
+pub fault_follows : (shape : Shape) (write : ℕ → List ℕ) → IsWriting shape.width write → (f : Fault) → IsWithinLimits shape → IsWellPlaced shape.width shape.ram f → Follows shape fault (fault_words_by write f) (done f)
 unfolding fault value_at
-fault_follows shape (StuckAt v true) w h = (_, refl, (_, spot_step shape RamSpot _ (spot_text v) v (spot_reads shape v w h.inside.0), (_, refl, refl)))
-fault_follows shape (StuckAt v false) w h = (_, refl, (_, spot_step shape RamSpot _ (spot_text v) v (spot_reads shape v w h.inside.0), (_, refl, refl)))
-fault_follows shape (CannotRise v) w h = (_, refl, (_, spot_step shape RamSpot _ (spot_text v) v (spot_reads shape v w h.inside.0), refl))
-fault_follows shape (CannotFall v) w h = (_, refl, (_, spot_step shape RamSpot _ (spot_text v) v (spot_reads shape v w h.inside.0), refl))
-fault_follows shape (Invert a true v) w h = (_, refl, (_, refl, (_, spot_step shape RamSpot _ (spot_text a) a (spot_reads shape a w h.inside.0), (_, spot_step shape (OtherSpot a.word) _ (spot_text v) v (other_spot_reads shape a.word v w h.inside.1.0 h.apart), refl))))
-fault_follows shape (Invert a false v) w h = (_, refl, (_, refl, (_, spot_step shape RamSpot _ (spot_text a) a (spot_reads shape a w h.inside.0), (_, spot_step shape (OtherSpot a.word) _ (spot_text v) v (other_spot_reads shape a.word v w h.inside.1.0 h.apart), refl))))
-fault_follows shape (Force a true v true) w h = (_, refl, (_, refl, (_, spot_step shape RamSpot _ (spot_text a) a (spot_reads shape a w h.inside.0), (_, spot_step shape (OtherSpot a.word) _ (spot_text v) v (other_spot_reads shape a.word v w h.inside.1.0 h.apart), (_, refl, refl)))))
-fault_follows shape (Force a true v false) w h = (_, refl, (_, refl, (_, spot_step shape RamSpot _ (spot_text a) a (spot_reads shape a w h.inside.0), (_, spot_step shape (OtherSpot a.word) _ (spot_text v) v (other_spot_reads shape a.word v w h.inside.1.0 h.apart), (_, refl, refl)))))
-fault_follows shape (Force a false v true) w h = (_, refl, (_, refl, (_, spot_step shape RamSpot _ (spot_text a) a (spot_reads shape a w h.inside.0), (_, spot_step shape (OtherSpot a.word) _ (spot_text v) v (other_spot_reads shape a.word v w h.inside.1.0 h.apart), (_, refl, refl)))))
-fault_follows shape (Force a false v false) w h = (_, refl, (_, refl, (_, spot_step shape RamSpot _ (spot_text a) a (spot_reads shape a w h.inside.0), (_, spot_step shape (OtherSpot a.word) _ (spot_text v) v (other_spot_reads shape a.word v w h.inside.1.0 h.apart), (_, refl, refl)))))
-fault_follows shape (State a true v true) w h = (_, refl, (_, refl, (_, spot_step shape RamSpot _ (spot_text a) a (spot_reads shape a w h.inside.0), (_, spot_step shape (OtherSpot a.word) _ (spot_text v) v (other_spot_reads shape a.word v w h.inside.1.0 h.apart), (_, refl, refl)))))
-fault_follows shape (State a true v false) w h = (_, refl, (_, refl, (_, spot_step shape RamSpot _ (spot_text a) a (spot_reads shape a w h.inside.0), (_, spot_step shape (OtherSpot a.word) _ (spot_text v) v (other_spot_reads shape a.word v w h.inside.1.0 h.apart), (_, refl, refl)))))
-fault_follows shape (State a false v true) w h = (_, refl, (_, refl, (_, spot_step shape RamSpot _ (spot_text a) a (spot_reads shape a w h.inside.0), (_, spot_step shape (OtherSpot a.word) _ (spot_text v) v (other_spot_reads shape a.word v w h.inside.1.0 h.apart), (_, refl, refl)))))
-fault_follows shape (State a false v false) w h = (_, refl, (_, refl, (_, spot_step shape RamSpot _ (spot_text a) a (spot_reads shape a w h.inside.0), (_, spot_step shape (OtherSpot a.word) _ (spot_text v) v (other_spot_reads shape a.word v w h.inside.1.0 h.apart), (_, refl, refl)))))
-fault_follows shape (NoCell a x) w h = (_, refl, (_, value_step shape Addr _ (decimal a) a (addr_reads shape a w h.inside.0.0), (_, value_step shape Data _ (word_text shape.width x) x (data_reads shape x h.inside.1.0.0), refl)))
-fault_follows shape (Also a b true) w h = (_, refl, (_, value_step shape Addr _ (decimal a) a (addr_reads shape a w h.inside.0.0), (_, value_step shape (OtherAddr a) _ (decimal b) b (other_reads shape a b w h.inside.1.0.0 h.apart), (_, refl, refl))))
-fault_follows shape (Also a b false) w h = (_, refl, (_, value_step shape Addr _ (decimal a) a (addr_reads shape a w h.inside.0.0), (_, value_step shape (OtherAddr a) _ (decimal b) b (other_reads shape a b w h.inside.1.0.0 h.apart), (_, refl, refl))))
-fault_follows shape (Instead a b) w h = (_, refl, (_, value_step shape Addr _ (decimal a) a (addr_reads shape a w h.inside.0.0), (_, value_step shape (OtherAddr a) _ (decimal b) b (other_reads shape a b w h.inside.1.0.0 h.apart), refl)))
+fault_follows shape write writes (StuckAt v true) w h = (_, refl, (_, spot_step shape RamSpot _ (spot_text v) v (spot_reads shape v w h.inside.0), (_, refl, refl)))
+fault_follows shape write writes (StuckAt v false) w h = (_, refl, (_, spot_step shape RamSpot _ (spot_text v) v (spot_reads shape v w h.inside.0), (_, refl, refl)))
+fault_follows shape write writes (CannotRise v) w h = (_, refl, (_, spot_step shape RamSpot _ (spot_text v) v (spot_reads shape v w h.inside.0), refl))
+fault_follows shape write writes (CannotFall v) w h = (_, refl, (_, spot_step shape RamSpot _ (spot_text v) v (spot_reads shape v w h.inside.0), refl))
+fault_follows shape write writes (Invert a true v) w h = (_, refl, (_, refl, (_, spot_step shape RamSpot _ (spot_text a) a (spot_reads shape a w h.inside.0), (_, spot_step shape (OtherSpot a.word) _ (spot_text v) v (other_spot_reads shape a.word v w h.inside.1.0 h.apart), refl))))
+fault_follows shape write writes (Invert a false v) w h = (_, refl, (_, refl, (_, spot_step shape RamSpot _ (spot_text a) a (spot_reads shape a w h.inside.0), (_, spot_step shape (OtherSpot a.word) _ (spot_text v) v (other_spot_reads shape a.word v w h.inside.1.0 h.apart), refl))))
+fault_follows shape write writes (Force a true v true) w h = (_, refl, (_, refl, (_, spot_step shape RamSpot _ (spot_text a) a (spot_reads shape a w h.inside.0), (_, spot_step shape (OtherSpot a.word) _ (spot_text v) v (other_spot_reads shape a.word v w h.inside.1.0 h.apart), (_, refl, refl)))))
+fault_follows shape write writes (Force a true v false) w h = (_, refl, (_, refl, (_, spot_step shape RamSpot _ (spot_text a) a (spot_reads shape a w h.inside.0), (_, spot_step shape (OtherSpot a.word) _ (spot_text v) v (other_spot_reads shape a.word v w h.inside.1.0 h.apart), (_, refl, refl)))))
+fault_follows shape write writes (Force a false v true) w h = (_, refl, (_, refl, (_, spot_step shape RamSpot _ (spot_text a) a (spot_reads shape a w h.inside.0), (_, spot_step shape (OtherSpot a.word) _ (spot_text v) v (other_spot_reads shape a.word v w h.inside.1.0 h.apart), (_, refl, refl)))))
+fault_follows shape write writes (Force a false v false) w h = (_, refl, (_, refl, (_, spot_step shape RamSpot _ (spot_text a) a (spot_reads shape a w h.inside.0), (_, spot_step shape (OtherSpot a.word) _ (spot_text v) v (other_spot_reads shape a.word v w h.inside.1.0 h.apart), (_, refl, refl)))))
+fault_follows shape write writes (State a true v true) w h = (_, refl, (_, refl, (_, spot_step shape RamSpot _ (spot_text a) a (spot_reads shape a w h.inside.0), (_, spot_step shape (OtherSpot a.word) _ (spot_text v) v (other_spot_reads shape a.word v w h.inside.1.0 h.apart), (_, refl, refl)))))
+fault_follows shape write writes (State a true v false) w h = (_, refl, (_, refl, (_, spot_step shape RamSpot _ (spot_text a) a (spot_reads shape a w h.inside.0), (_, spot_step shape (OtherSpot a.word) _ (spot_text v) v (other_spot_reads shape a.word v w h.inside.1.0 h.apart), (_, refl, refl)))))
+fault_follows shape write writes (State a false v true) w h = (_, refl, (_, refl, (_, spot_step shape RamSpot _ (spot_text a) a (spot_reads shape a w h.inside.0), (_, spot_step shape (OtherSpot a.word) _ (spot_text v) v (other_spot_reads shape a.word v w h.inside.1.0 h.apart), (_, refl, refl)))))
+fault_follows shape write writes (State a false v false) w h = (_, refl, (_, refl, (_, spot_step shape RamSpot _ (spot_text a) a (spot_reads shape a w h.inside.0), (_, spot_step shape (OtherSpot a.word) _ (spot_text v) v (other_spot_reads shape a.word v w h.inside.1.0 h.apart), (_, refl, refl)))))
+fault_follows shape write writes (NoCell a x) w h = (_, refl, (_, value_step shape Addr _ (decimal a) a (addr_reads shape a w h.inside.0.0), (_, value_step shape Data _ (write x) x (written_reads shape write writes x h.inside.1.0.0), refl)))
+fault_follows shape write writes (Also a b true) w h = (_, refl, (_, value_step shape Addr _ (decimal a) a (addr_reads shape a w h.inside.0.0), (_, value_step shape (OtherAddr a) _ (decimal b) b (other_reads shape a b w h.inside.1.0.0 h.apart), (_, refl, refl))))
+fault_follows shape write writes (Also a b false) w h = (_, refl, (_, value_step shape Addr _ (decimal a) a (addr_reads shape a w h.inside.0.0), (_, value_step shape (OtherAddr a) _ (decimal b) b (other_reads shape a b w h.inside.1.0.0 h.apart), (_, refl, refl))))
+fault_follows shape write writes (Instead a b) w h = (_, refl, (_, value_step shape Addr _ (decimal a) a (addr_reads shape a w h.inside.0.0), (_, value_step shape (OtherAddr a) _ (decimal b) b (other_reads shape a b w h.inside.1.0.0 h.apart), refl)))
 
 bit_word : (b : Bool) → is_text (bit_text b) ≡ true
 bit_word true = refl
@@ -175,18 +175,18 @@ abbrev pub IsSome : Event → Type 0
 IsSome Nothing = ⊥
 IsSome ev = Unit {0}
 
-pub event_follows : (shape : Shape) (ev : Event) → IsWithinLimits shape → IsSoundEvent shape ev → IsSome ev → Follows shape event (event_words shape.width ev) (done ev)
+pub event_follows : (shape : Shape) (write : ℕ → List ℕ) → IsWriting shape.width write → (ev : Event) → IsWithinLimits shape → IsSoundEvent shape ev → IsSome ev → Follows shape event (event_words_by write ev) (done ev)
 unfolding event
-event_follows shape Nothing w h s = absurd s
-event_follows shape (Ram call) w h s = (_, refl, follows_mapped shape (λ c. Ram c) ram_call (ram_words call) (done call) (ram_follows shape call h))
-event_follows shape (Fls call) w h s = (_, refl, follows_mapped shape (λ c. Fls c) fls_call (fls_words call) (done call) (fls_follows shape call h))
-event_follows shape TickRam w h s = (_, refl, (_, refl, refl))
-event_follows shape TickFls w h s = (_, refl, (_, refl, refl))
-event_follows shape (App op) w h s = (_, refl, follows_mapped shape (λ c. App c) app_op (app_words shape.width op) (done op) (app_follows shape op w h))
-event_follows shape (Inject f) w h s = (_, refl, follows_mapped shape (λ c. Inject c) fault (fault_words shape.width f) (done f) (fault_follows shape f w h))
-event_follows shape Heal w h s = (_, refl, refl)
-event_follows shape (Burn a x) w h s = (_, refl, (_, value_step shape FlashAddr _ (decimal a) a (flash_reads shape a w h.0), (_, value_step shape Data _ (word_text shape.width x) x (data_reads shape x h.1), refl)))
-event_follows shape (Flip v) w h s = (_, refl, (_, spot_step shape FlashSpot _ (spot_text v) v (flash_spot_reads shape v w h), refl))
+event_follows shape write writes Nothing w h s = absurd s
+event_follows shape write writes (Ram call) w h s = (_, refl, follows_mapped shape (λ c. Ram c) ram_call (ram_words call) (done call) (ram_follows shape call h))
+event_follows shape write writes (Fls call) w h s = (_, refl, follows_mapped shape (λ c. Fls c) fls_call (fls_words call) (done call) (fls_follows shape call h))
+event_follows shape write writes TickRam w h s = (_, refl, (_, refl, refl))
+event_follows shape write writes TickFls w h s = (_, refl, (_, refl, refl))
+event_follows shape write writes (App op) w h s = (_, refl, follows_mapped shape (λ c. App c) app_op (app_words_by write op) (done op) (app_follows shape write writes op w h))
+event_follows shape write writes (Inject f) w h s = (_, refl, follows_mapped shape (λ c. Inject c) fault (fault_words_by write f) (done f) (fault_follows shape write writes f w h))
+event_follows shape write writes Heal w h s = (_, refl, refl)
+event_follows shape write writes (Burn a x) w h s = (_, refl, (_, value_step shape FlashAddr _ (decimal a) a (flash_reads shape a w h.0), (_, value_step shape Data _ (write x) x (written_reads shape write writes x h.1), refl)))
+event_follows shape write writes (Flip v) w h s = (_, refl, (_, spot_step shape FlashSpot _ (spot_text v) v (flash_spot_reads shape v w h), refl))
 
 pub event_are_words : (shape : Shape) (ev : Event) → IsWithinLimits shape → IsSoundEvent shape ev → AreWords (event_words shape.width ev)
 event_are_words shape Nothing w h = tt

@@ -29,7 +29,7 @@ one_more place b bs n k e =
     subst (λ (x : ℕ). first ∷ tokens (place + 1 + n) (drop n bs) ≡ record { place = place; bytes = take x (b ∷ bs) } ∷ tokens (place + x) (drop x (b ∷ bs))) (sym e) (ap (λ (q : ℕ). first ∷ tokens q (drop n bs)) sum)
 
 -- a word
-tokens_word : (place b : ℕ) (bs : List ℕ) → is_word b ≡ true → tokens place (b ∷ bs) ≡ record { place = place; bytes = b ∷ take (word_len bs) bs } ∷ tokens (place + 1 + word_len bs) (drop (word_len bs) bs)
+pub tokens_word : (place b : ℕ) (bs : List ℕ) → is_word b ≡ true → tokens place (b ∷ bs) ≡ record { place = place; bytes = b ∷ take (word_len bs) bs } ∷ tokens (place + 1 + word_len bs) (drop (word_len bs) bs)
 tokens_word place b [] w = word_ends place b [] w refl ∙ rw add-zero refl
 tokens_word place b (c ∷ cs) w =
     elim (cases_Bool (is_word c)) [

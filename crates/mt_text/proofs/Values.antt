@@ -1,6 +1,7 @@
 -- Numbers, words, bits and spots as they are written spell themselves.
 use Rattle.std.proofs.Common.{◌≡◌, ◌≢◌, ℕ, zero, suc, ◌+◌, ◌*◌, ◌/◌, ◌%◌, ◌^◌, ◌<◌, ◌≤◌, ◌==◌, not, ◌&&◌, Bool, true, false, List, [], ◌∷◌, ◌++◌, length, take, drop, Option, Some, refl, ap, ◌∙◌, inl, inr, arith, nat_le, nat_lt, lit<, eqb-true, codes, length-append, append_assoc}
-use Rattle.std.proofs.lemmas.Bool.{cases_Bool}
+use Rattle.std.specs.Prelude.{◌||◌, if◌then◌else◌, Option, None}
+use Rattle.std.proofs.lemmas.Bool.{cases_Bool, or_cases}
 use Rattle.std.proofs.lemmas.Bool.Decides.{nat_tests}
 use Rattle.std.proofs.Math.Seq.{take-append_seam, drop-append-add}
 use Rattle.std.proofs.lemmas.Fmt.{decimal_nonempty}
@@ -19,6 +20,7 @@ use Rattle.mt_text.specs.Tokens.{is_word, begins_word, number_of, point, parts, 
 use Rattle.mt_hex.specs.Digits.{digit_byte, hex_text, word_text}
 use Rattle.mt_text.specs.Canonical.{spot_text, bit_text}
 use Rattle.mt_text.specs.Values.{Num, Addr, FlashAddr, OtherAddr, Data, Bit, RamSpot, OtherSpot, FlashSpot, mark_byte, value_at, spot_at}
+use Rattle.mt_text.specs.LineTokens.{IsWriting}
 use Rattle.mt_text.specs.Accepted.{IsNumber}
 use Rattle.mt_text.proofs.Numbers.{both, number_of_text, text_begins_word, text_digits}
 use Rattle.mt_text.proofs.Pieces.{is_text}
@@ -221,6 +223,41 @@ unfolding value_at
 data_reads shape x h =
     let t : nat_lt x (2 ^ width_bits shape.width) ≡ true = grind (arith, nat_tests) in
     record { place = rw (begins_of_text (word_text shape.width x) (word_is_text shape.width x), word_of_text shape.width x h, t) refl }
+
+-- digits that spell a word begin a word of the line
+hex_is_word : (b : ℕ) → is_hex b ≡ true → is_word b ≡ true
+hex_is_word b h =
+    elim (or_cases (is_digit b) ((nat_le 97 b && nat_le b 102) || (nat_le 65 b && nat_le b 70)) h) [
+      | inl digit ↦ digit_is_word b digit
+      | inr letter ↦ elim (or_cases (nat_le 97 b && nat_le b 102) (nat_le 65 b && nat_le b 70) letter) [
+        | inl small ↦ (let m = both (nat_le 97 b) (nat_le b 102) small in grind (arith, nat_tests))
+        | inr large ↦ (let m = both (nat_le 65 b) (nat_le b 70) large in grind (arith, nat_tests))
+      ]
+    ]
+
+-- where something is spelled, each byte is a digit
+third : (a b c : Bool) (o : Option ℕ) (x : ℕ) → (if a then None else (if b then None else (if not c then None else o))) ≡ Some x → c ≡ true
+third true b c o x h = absurd cc
+third false true c o x h = absurd cc
+third false false true o x h = refl
+third false false false o x h = absurd cc
+
+spelled_begins : (bytes : List ℕ) (x : ℕ) → hex_of bytes ≡ Some x → begins_word bytes ≡ true
+unfolding hex_of
+spelled_begins [] x h = absurd cc
+spelled_begins (b ∷ bs) x h =
+    let digits = third (length (b ∷ bs) == 0) (nat_lt 16 (length (b ∷ bs))) (list_all is_hex (b ∷ bs)) (Some (hex 0 (b ∷ bs))) x h in
+    hex_is_word b (both (is_hex b) (list_all is_hex bs) digits).0
+
+-- a word in any digits that spell it
+pub written_reads : (shape : Shape) (write : ℕ → List ℕ) → IsWriting shape.width write → (x : ℕ) → Fits shape.width x → Reads shape Data (write x) x
+unfolding value_at
+written_reads shape write writes x h =
+    let t : nat_lt x (2 ^ width_bits shape.width) ≡ true = grind (arith, nat_tests) in
+    record { place = rw (spelled_begins (write x) x (writes x h), writes x h, t) refl }
+
+pub canonical_writes : (width : Width) → IsWriting width (word_text width)
+canonical_writes width x h = word_of_text width x h
 
 pub bit_number : Bool → ℕ
 bit_number true = 1

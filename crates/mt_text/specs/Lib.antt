@@ -11,4 +11,5 @@ pub mod Canonical
 pub mod Kinds
 pub mod TokenRules
 pub mod LineTokens
+pub mod Separators
 pub mod Reader

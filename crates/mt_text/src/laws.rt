@@ -14,6 +14,7 @@ ghost use Rattle.mt_text.specs.Kinds.{IsOfKinds, bytes_of};
 ghost use Rattle.mt_text.specs.Forms.{Form, step};
 ghost use Rattle.mt_text.specs.LineTokens.{AreOfLine};
 ghost use Rattle.mt_text.specs.Lines.{line_of, Part, settled, Spells, SpellsTokens, Refuses, FirstBroken};
+ghost use Rattle.mt_text.specs.Separators.{WordsAreTokens, SpacesPartTokens, SignsAreTokens, CommentsBeginAtTheirSign, NamesDiffer, DetailsDiffer};
 ghost use Rattle.mt_text.specs.TokenRules.{token_rules, IsLeastBroken, BreaksNone};
 ghost use Rattle.mt_hex.specs.Hex.{is_hex, hex, hex_of, upper};
 ghost use Rattle.mt_text.specs.Tokens.{Token, tokens, number_of};
@@ -52,6 +53,13 @@ pub fn canonical_lines_spell_themselves()
 pub fn spelled_lines_have_their_tokens()
     ensures { (shape : Shape) (tokens : List Token) (line : Line) → SpellsTokens shape tokens line
         → AreOfLine shape.width line (bytes_of tokens) }
+{}
+
+/// The tokens of an accepted line spell it, with any digits that spell its words and with brackets round an empty handler or
+/// none.
+pub fn tokens_of_a_line_spell_it()
+    ensures { (shape : Shape) (tokens : List Token) (line : Line) → IsWithinLimits shape → IsAccepted shape line
+        → AreOfLine shape.width line (bytes_of tokens) → SpellsTokens shape tokens line }
 {}
 
 /// A refusal of a token is `Spelling` just where no line has, after the tokens before it, a token of its kind. The
@@ -95,4 +103,19 @@ pub fn trace_lines_stand_in_order()
     ensures more { (width : Width) (number : ℕ) (first second : List Entry)
         → entries_text width number (first ++ second)
         ≡ entries_text width number first ++ entries_text width number second }
+{}
+
+/// Which bytes end a token: a word is bytes other than the space, the brackets and the semicolon; a space parts tokens, and a
+/// bracket or a semicolon is one of its own. A comment begins at its sign and nowhere else.
+pub fn tokens_end_at_their_bytes()
+    ensures words { WordsAreTokens }
+    ensures spaces { SpacesPartTokens }
+    ensures signs { SignsAreTokens }
+    ensures comments { CommentsBeginAtTheirSign }
+{}
+
+/// The replies that are names have different texts, and so have the three kinds of details.
+pub fn replies_are_told_apart()
+    ensures names { NamesDiffer }
+    ensures details { DetailsDiffer }
 {}

@@ -21,8 +21,9 @@ pub use entry::{entry_text, write_entry};
 pub use event_text::LineText;
 pub use laws::{
     canonical_lines_spell_themselves, numbers_have_one_spelling, one_line, reading_is_spelling,
-    spelled_lines_are_accepted, spelled_lines_have_their_tokens, spelling_is_a_token_of_no_line,
-    the_least_rule_is_told, trace_lines_stand_in_order, words_have_hexadecimal_digits,
+    replies_are_told_apart, spelled_lines_are_accepted, spelled_lines_have_their_tokens,
+    spelling_is_a_token_of_no_line, the_least_rule_is_told, tokens_end_at_their_bytes,
+    tokens_of_a_line_spell_it, trace_lines_stand_in_order, words_have_hexadecimal_digits,
 };
 pub use line::{Event, FlsCall, Line, LineKind, LineRefusal, RamCall};
 pub use line_text::{push_fault_line, push_line, write_line};

@@ -1,6 +1,6 @@
 use Rattle.std.proofs.Common.{rules}
 use Rattle.mt_conf.specs.declared.schema.Part.TheVariants.{FlashBlock}
-use Rattle.mt_conf.specs.Rules.{breaks, any_in_fls}
+use Rattle.mt_conf.specs.Rules.{breaks}
 use Rattle.mt_conf.proofs.shape.breaks_in_fls.Goals as goal
 
 pub returns-else-breaks : goal.returns-else-breaks

@@ -1,6 +1,6 @@
 use Rattle.std.proofs.Common.{rules}
 use Rattle.mt_conf.specs.declared.schema.Part.TheVariants.{Block}
-use Rattle.mt_conf.specs.Rules.{breaks, any_in_set}
+use Rattle.mt_conf.specs.Rules.{breaks}
 use Rattle.mt_conf.proofs.shape.breaks_in_set.Goals as goal
 
 pub returns-else-breaks : goal.returns-else-breaks

@@ -1,5 +1,5 @@
-use Rattle.std.proofs.Common.{◌≡◌, ◌∙◌, List, Bool, ap}
-use Rattle.std.specs.Prelude.{not, ℕ}
+use Rattle.std.proofs.Common.{◌∙◌, List, ap}
+use Rattle.std.specs.Prelude.{not}
 use Rattle.std.specs.List.{list_any}
 use Rattle.mt_conf.specs.Schema.{Row}
 use Rattle.mt_conf.specs.Rules.{keys_of, is_listed, has_unlisted_key}

@@ -1,5 +1,5 @@
 use Rattle.std.proofs.Common.{rules}
-use Rattle.mt_conf.specs.Rules.{is_version, wrong_cells_in_set, wrong_cells_range}
+use Rattle.mt_conf.specs.Rules.{wrong_cells_in_set, wrong_cells_range}
 use Rattle.mt_conf.proofs.values.has_wrong_cells_range.Goals as goal
 
 pub returns : goal.returns
