@@ -1,7 +1,9 @@
 //! The program `mt_desk`: what people ask for before and after a replay.
 #![tactic(auto)]
 
+mod explain;
 mod new;
+mod rules;
 mod task;
 
 use anyhow::Result;
@@ -13,7 +15,9 @@ use task::{Task, command, task_of};
 // Does a task: one arm, and one file, for each.
 fn perform<R: Runtime + AllocGlobal>(rt: &R, task: Task<'_>) -> Result<ExitCode> {
     match task {
+        Task::Explain { form, file } => explain::explain_file(rt, form, file),
         Task::New { file } => new::write_job(rt, file),
+        Task::Rules => rules::list_rules(rt),
         Task::Nothing => Ok(ExitCode::from(2)),
     }
 }

@@ -1,13 +1,32 @@
-// A library with one function.
+//! Why an input is refused, in words.
 #![tactic(auto)]
 
-ghost use Rattle.std.specs.Prelude.{◌≡◌};
-ghost use Rattle.mt_explain.specs.Echo.{echo_of};
+mod block_finding;
+mod config_note;
+mod explain;
+mod file;
+mod find;
+mod finding;
+mod input;
+mod lines;
+mod location_note;
+mod march_note;
+mod nearest;
+mod note;
+mod notes;
+mod path;
+mod report;
+mod row;
+mod script_note;
+mod shape_finding;
+mod table;
+mod tokens;
+mod trace_note;
+mod value_finding;
+mod vocabulary;
 
-// The `ensures` clause is the contract: what `echo` returns is `echo_of` of its argument, a definition
-// in `specs/Echo.antt`, which a caller's clause can cite too.
-pub fn echo(x: usize) -> usize
-    ensures { result ≡ echo_of x }
-{
-    x
-}
+pub use explain::{Explanation, Place, explain};
+pub use input::{Input, status_of};
+pub use report::{report, rule_name};
+pub use row::{Book, Row, Rule, row_of, rule_of};
+pub use table::ROWS;

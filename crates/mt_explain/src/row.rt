@@ -1,0 +1,70 @@
+//! Rules, and the row of the table that each has.
+
+ghost use Rattle.std.specs.Prelude.{◌≡◌, find, option_map};
+ghost use Rattle.mt_explain.specs.Rows.{rule_of, same_book, is_row_of};
+
+use crate::table::ROWS;
+use mt_replay::Status;
+
+/// What a rule is a rule of: configurations; the texts of marches; the lines of a script, of a location or of a claim; or
+/// the lines of a trace.
+#[derive(Clone, Copy, Debug, PartialEq, Eq)]
+pub enum Book {
+    Configuration,
+    March,
+    Line,
+    Trace,
+}
+
+/// A rule: its book, and its number there, which a refusal tells.
+#[derive(Clone, Copy, Debug, PartialEq, Eq)]
+pub struct Rule {
+    pub book: Book,
+    pub number: u8,
+}
+
+/// A row of the table: a rule's book and number, and the one sentence that says how it is broken.
+#[derive(Clone, Copy, Debug)]
+pub struct Row {
+    pub book: Book,
+    pub number: u8,
+    pub sentence: &'static str,
+}
+
+fn same_book(a: Book, b: Book) -> bool
+    ensures { result ≡ same_book a b }
+{
+    match (a, b) {
+        (Book::Configuration, Book::Configuration) => true,
+        (Book::March, Book::March) => true,
+        (Book::Line, Book::Line) => true,
+        (Book::Trace, Book::Trace) => true,
+        _ => false,
+    }
+}
+
+fn is_row_of(rule: Rule, row: &Row) -> bool
+    ensures { result ≡ is_row_of rule row.now }
+{
+    same_book(rule.book, row.book) && rule.number == row.number
+}
+
+/// The rule by which an input with this status is refused, if it is.
+pub fn rule_of(status: &Status) -> Option<Rule>
+    ensures { result ≡ rule_of status.now }
+{
+    let (book, number) = match status {
+        Status::BadConfig { code } => (Book::Configuration, *code),
+        Status::BadScript { code, .. } => (Book::Line, *code),
+        Status::Differs { .. } => (Book::Trace, 1),
+        _ => return None,
+    };
+    Some(Rule { book, number })
+}
+
+/// The row of a rule.
+pub fn row_of(rule: Rule) -> Option<&'static Row>
+    ensures { option_map (λ row. row.now) result ≡ find (λ row. is_row_of rule row) ROWS }
+{
+    ROWS.iter().find(|row| is_row_of(rule, row))
+}
