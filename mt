@@ -106,7 +106,10 @@ main() {
     mt_desk,*) use_program mt_desk && become_program "$@" ;;
     esac
     nearest=$(nearest_form "$form")
-    say "mt: ${form:+'$form' is no form; }${nearest:+the nearest is '$nearest'; }./mt --help lists the forms"
+    said=
+    [ -z "$form" ] || said="'$form' is no form; "
+    [ -z "$nearest" ] || said="${said}the nearest is '$nearest'; "
+    say "mt: $said./mt --help lists the forms"
     refuse_words "$@"
 }
 

@@ -52,7 +52,7 @@ build_crate() (
         exit
     fi
     rt run "$1" --jobs "$2" >/dev/null 2>"$log" </dev/null
-    [ $? = 2 ] && [ -x "$program" ] && [ "$program" -nt "$began" ]
+    [ $? = 2 ] && [ -x "$program" ]
 )
 
 # How far the building is: crates proved, of all, after so many seconds; and the crate that comes next.

@@ -48,8 +48,8 @@ write_stamp() {
 # Whether the toolchain is the one that built the program. Its version is asked only where its file is another.
 toolchain_is_same() {
     command -v rt >/dev/null || return 0
-    { read -r file && read -r version; } <"$stamp" || return 1
-    [ "$file" = "$(tool_file)" ] || { [ "$version" = "$(rt version)" ] && write_stamp "$stamp"; }
+    { read -r stamped_file && read -r stamped_version; } <"$stamp" || return 1
+    [ "$stamped_file" = "$(tool_file)" ] || { [ "$stamped_version" = "$(rt version)" ] && write_stamp "$stamp"; }
 }
 
 is_fresh() {

@@ -1,5 +1,5 @@
 -- The row of the table that a refusal has.
-use Rattle.std.specs.Prelude.{ℕ, Bool, true, false, ◌==◌, ◌&&◌, Option, Some, None}
+use Rattle.std.specs.Prelude.{ℕ, suc, zero, ◌+◌, Bool, true, false, ◌==◌, ◌&&◌, List, [], ◌∷◌, ◌++◌, find, Option, Some, None}
 use Rattle.mt_replay.specs.declared.status.Status.{Status}
 use Rattle.mt_replay.specs.declared.status.Status.TheVariants.{Done, Usage, BadConfig, BadScript, ReadFault, WriteFault, NoMemory, Differs}
 use Rattle.mt_explain.specs.declared.row.Book.{Book}
@@ -21,5 +21,22 @@ same_book Line Line = true
 same_book Trace Trace = true
 same_book a b = false
 
-abbrev pub is_row_of : Rule → Row → Bool
-is_row_of rule row = same_book rule.book row.book && rule.number == row.number
+abbrev pub same_rule : Rule → Rule → Bool
+same_rule a b = same_book a.book b.book && a.number == b.number
+
+-- the rules of a book up to a number
+abbrev pub rules_to : Book → ℕ → List Rule
+rules_to book zero = []
+rules_to book (suc n) = rules_to book n ++ (record { book = book; number = suc n } ∷ [])
+
+-- the rules that there are: 19 of configurations, 5 of marches, 17 of lines, 1 of traces
+unfoldable pub rules : List Rule
+rules = rules_to Configuration 19 ++ rules_to March 5 ++ rules_to Line 17 ++ rules_to Trace 1
+
+-- the rule, if there is such a one
+abbrev pub known : Rule → Option Rule
+known rule = find (same_rule rule) rules
+
+-- the rule of a row
+abbrev pub rule_in : Row → Rule
+rule_in row = record { book = row.book; number = row.number }

@@ -36,7 +36,10 @@ pub fn destructive<'t>(
                 path: placed.path,
                 target: Target::Value("policy"),
                 found: String::from_str(alloc, "policy is destructive")?,
-                help: String::from_str(alloc, "write non-destructive, or another algorithm for the set")?,
+                help: String::from_str(
+                    alloc,
+                    "write non-destructive, or another algorithm for the set",
+                )?,
             }));
         }
     }
@@ -53,7 +56,11 @@ fn wrong_span<'t>(
     let first = number(placed.table, "first");
     let last = number(placed.table, "last");
     let (key, found, help) = if first < 0 {
-        ("first", format!(in alloc; "first is {first}")?, format!(in alloc; "write 0 or more")?)
+        (
+            "first",
+            format!(in alloc; "first is {first}")?,
+            format!(in alloc; "write 0 or more")?,
+        )
     } else if last < first {
         (
             "last",
@@ -111,7 +118,10 @@ fn overlap_of<'t>(
                 path: placed.path,
                 target: Target::Value("first"),
                 found: format!(in alloc; "the block shares words with {name}, {first} to {last}")?,
-                help: String::from_str(alloc, "write blocks that share no word, or put one into another set")?,
+                help: String::from_str(
+                    alloc,
+                    "write blocks that share no word, or put one into another set",
+                )?,
             }));
         }
     }
@@ -119,7 +129,10 @@ fn overlap_of<'t>(
 }
 
 /// The block that shares words with another one of its set.
-pub fn overlap<'t>(alloc: Global, tables: &[Placed<'t>]) -> Result<Option<Finding<'t>>, AllocError> {
+pub fn overlap<'t>(
+    alloc: Global,
+    tables: &[Placed<'t>],
+) -> Result<Option<Finding<'t>>, AllocError> {
     for (index, placed) in tables.iter().enumerate() {
         if matches!(placed.path, Path::Block { .. })
             && let Some(finding) = overlap_of(alloc, *placed, &tables[..index])?
@@ -134,7 +147,12 @@ pub fn overlap<'t>(alloc: Global, tables: &[Placed<'t>]) -> Result<Option<Findin
 fn wrong_cells<'t>(alloc: Global, placed: Placed<'t>) -> Result<Option<Finding<'t>>, AllocError> {
     match out_of_range(alloc, placed, "atomic", (1, 64))? {
         Some(finding) => Ok(Some(finding)),
-        None => out_of_range(alloc, placed, "cells", (number(placed.table, "atomic"), 65_536)),
+        None => out_of_range(
+            alloc,
+            placed,
+            "cells",
+            (number(placed.table, "atomic"), 65_536),
+        ),
     }
 }
 
@@ -193,7 +211,10 @@ fn wrong_copy<'t>(
         path: placed.path,
         target: Target::Value("copy"),
         found: format!(in alloc; "the copy is {copy} to {last}, and flash is {flash}")?,
-        help: String::from_str(alloc, "write a copy that lies in the flash, or a larger flash")?,
+        help: String::from_str(
+            alloc,
+            "write a copy that lies in the flash, or a larger flash",
+        )?,
     }))
 }
 
@@ -239,8 +260,13 @@ pub fn copy<'t>(alloc: Global, tables: &[Placed<'t>]) -> Result<Option<Finding<'
             return Ok(Some(Finding {
                 path: placed.path,
                 target: Target::Value("copy"),
-                found: format!(in alloc; "the block is {first} to {last}, and its copy {copy} to {end}")?,
-                help: String::from_str(alloc, "write a copy that lies wholly before or after its block")?,
+                found: format!(in alloc;
+                    "the block is {first} to {last}, and its copy {copy} to {end}"
+                )?,
+                help: String::from_str(
+                    alloc,
+                    "write a copy that lies wholly before or after its block",
+                )?,
             }));
         }
     }

@@ -119,8 +119,14 @@ fn no_document(alloc: Global, head: &[u8]) -> Result<Note, AllocError> {
 fn near_separator(alloc: Global, file: &[&[u8]]) -> Result<Option<Note>, AllocError> {
     for (index, line) in file.iter().enumerate() {
         if line.trim_ascii() == b"=====".as_slice() {
-            let found = String::from_str(alloc, "this line has white space beside its equals signs")?;
-            let help = String::from_str(alloc, "write the five equals signs alone, with a line feed behind them")?;
+            let found = String::from_str(
+                alloc,
+                "this line has white space beside its equals signs",
+            )?;
+            let help = String::from_str(
+                alloc,
+                "write the five equals signs alone, with a line feed behind them",
+            )?;
             let mut note = Note::of(line.len(), found, help);
             note.mark = Some(Mark {
                 line: index.saturating_add(1),
@@ -148,7 +154,10 @@ fn no_separator(alloc: Global, file: &[&[u8]]) -> Result<Note, AllocError> {
 fn too_long(alloc: Global, head: &[u8]) -> Result<Note, AllocError> {
     let count = head.len();
     let found = format!(in alloc; "it has {count} bytes")?;
-    let help = String::from_str(alloc, "leave comments out, or write a line ===== where the script begins")?;
+    let help = String::from_str(
+        alloc,
+        "leave comments out, or write a line ===== where the script begins",
+    )?;
     Ok(Note::of(1, found, help))
 }
 

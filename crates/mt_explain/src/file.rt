@@ -62,7 +62,10 @@ impl<'a, 'l> File<'a, 'l> {
 
     /// The bytes of the configuration and of the script, with the first separator.
     pub fn job_bytes(&self) -> &'a [u8] {
-        let count = self.lines.len().min(self.head.saturating_add(self.script_len()));
+        let count = self
+            .lines
+            .len()
+            .min(self.head.saturating_add(self.script_len()));
         &self.bytes[..self.bytes.len().min(byte_count(&self.lines[..count]))]
     }
 }

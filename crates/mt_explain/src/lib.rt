@@ -3,7 +3,7 @@
 
 mod block_finding;
 mod config_note;
-mod explain;
+mod explanation;
 mod file;
 mod find;
 mod finding;
@@ -15,7 +15,7 @@ mod nearest;
 mod note;
 mod notes;
 mod path;
-mod report;
+mod report_text;
 mod row;
 mod script_note;
 mod shape_finding;
@@ -25,8 +25,8 @@ mod trace_note;
 mod value_finding;
 mod vocabulary;
 
-pub use explain::{Explanation, Place, explain};
+pub use explanation::{Explanation, Place, explain};
 pub use input::{Input, status_of};
-pub use report::{report, rule_name};
+pub use report_text::{report, rule_name};
 pub use row::{Book, Row, Rule, row_of, rule_of};
-pub use table::ROWS;
+pub use table::rows;

@@ -1,6 +1,6 @@
 //! The lines of a file.
 
-ghost use Rattle.std.specs.Prelude.{◌≡◌, ◌≤◌, ◌+◌, ◌==◌, not, length, map, take, drop, ◌∷◌, [], IfOk};
+ghost use Rattle.std.specs.Prelude.{◌≡◌, ◌<◌, ◌≤◌, ◌∷◌, ◌==◌, not, length, map, position, IfOk};
 ghost use Rattle.std.specs.List.{prefix_len};
 ghost use Rattle.mt_verify.specs.Lines.{lines};
 ghost use Rattle.mt_explain.specs.Lines.{is_separator, head_len, line_at};
@@ -17,6 +17,21 @@ fn line_len(bytes: &[u8]) -> usize
     bytes.iter().take_while(|b| **b != b'\n').count()
 }
 
+// The first line of a text that has a byte, and what is behind its line feed.
+fn first_line(text: &[u8]) -> (&[u8], &[u8])
+    requires { 0 < length text.now }
+    ensures lines { lines text.now ≡ result.0.now ∷ lines result.1.now }
+    ensures shorter { length result.1.now < length text.now }
+{
+    let len = line_len(text);
+    let (line, _) = text.split_at(len);
+    if len == text.len() {
+        return (line, &[]);
+    }
+    let (_, behind) = text.split_at(len + 1);
+    (line, behind)
+}
+
 /// The lines of a text. A last line without a line feed counts where it has a byte.
 pub fn lines_of(alloc: Global, bytes: &[u8]) -> Result<Vec<&[u8]>, AllocError>
     ensures { IfOk result (λ v. map (λ line. line.now) v.items ≡ lines bytes.now) }
@@ -24,13 +39,9 @@ pub fn lines_of(alloc: Global, bytes: &[u8]) -> Result<Vec<&[u8]>, AllocError>
     let mut found = Vec::new(alloc);
     let mut rest = bytes;
     while !rest.is_empty() {
-        let len = line_len(rest);
-        found.push(&rest[..len])?;
-        rest = if len < rest.len() {
-            &rest[len + 1..]
-        } else {
-            &[]
-        };
+        let (line, behind) = first_line(rest);
+        found.push(line)?;
+        rest = behind;
     }
     Ok(found)
 }
@@ -42,11 +53,18 @@ pub fn is_separator(line: &[u8]) -> bool
     line == SEPARATOR
 }
 
+fn separator_index(file: &[&[u8]]) -> Option<usize>
+    ensures { result ≡ position (λ line. is_separator line.now) file.now }
+{
+    file.iter().position(|line| is_separator(line))
+}
+
 /// How many lines the configuration has, with its separator.
 pub fn head_len(file: &[&[u8]]) -> usize
-    ensures { result ≡ head_len (map (λ line. line.now) file.now) }
+    ensures value { result ≡ head_len (map (λ line. line.now) file.now) }
+    ensures fits { result ≤ length file.now }
 {
-    match file.iter().position(|line| is_separator(line)) {
+    match separator_index(file) {
         Some(index) => index + 1,
         None => 0,
     }
@@ -54,10 +72,9 @@ pub fn head_len(file: &[&[u8]]) -> usize
 
 /// The line with a number, counted from 1; nothing behind the last one.
 pub fn line_at<'a>(file: &[&'a [u8]], number: usize) -> &'a [u8]
-    requires { 1 ≤ number }
     ensures { result.now ≡ line_at (map (λ line. line.now) file.now) number }
 {
-    match file.get(number - 1) {
+    match file.get(number.saturating_sub(1)) {
         Some(line) => line,
         None => &[],
     }

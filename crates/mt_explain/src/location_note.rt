@@ -30,18 +30,18 @@ fn number_before(tokens: &Tokens<'_>, index: usize) -> usize {
 }
 
 fn set_before<'c>(config: &'c Config, tokens: &Tokens<'_>) -> Option<&'c ParamSet> {
-    config
-        .ram_tst
-        .sets
-        .as_slice()
-        .get(number_before(tokens, 1))
+    config.ram_tst.sets.as_slice().get(number_before(tokens, 1))
 }
 
 // How many slices the block before the place has.
 fn slice_count(set: &ParamSet, block: usize) -> u32 {
     match set.blocks.as_slice().get(block) {
         Some(block) => {
-            let words = block.span.last.saturating_sub(block.span.first).saturating_add(1);
+            let words = block
+                .span
+                .last
+                .saturating_sub(block.span.first)
+                .saturating_add(1);
             words.saturating_add(set.atomic.saturating_sub(1)) / set.atomic.max(1)
         }
         None => 0,
@@ -71,7 +71,11 @@ fn form(first: bool) -> &'static str {
     }
 }
 
-fn spelling(alloc: Global, located: Located<'_, '_>, tokens: &Tokens<'_>) -> Result<Note, AllocError> {
+fn spelling(
+    alloc: Global,
+    located: Located<'_, '_>,
+    tokens: &Tokens<'_>,
+) -> Result<Note, AllocError> {
     let (found, length) = match tokens.here {
         Some(token) => {
             let word = shown(alloc, token)?;
@@ -135,7 +139,11 @@ fn wide_word(alloc: Global, token: &[u8], config: &Config) -> Result<Note, Alloc
 }
 
 /// A note on a line of a location that is refused by one of the rules 1 to 9 or 12 to 15.
-pub fn location_note(alloc: Global, code: u8, located: Located<'_, '_>) -> Result<Note, AllocError> {
+pub fn location_note(
+    alloc: Global,
+    code: u8,
+    located: Located<'_, '_>,
+) -> Result<Note, AllocError> {
     let tokens = tokens_to(alloc, located.line.text, located.line.place)?;
     let token = tokens.here.unwrap_or(&[]);
     let config = located.config;

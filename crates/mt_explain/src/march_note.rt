@@ -1,5 +1,7 @@
 //! Notes on refused marches.
 
+ghost use Rattle.std.specs.Prelude.{◌≤◌, length};
+
 use crate::find::{Target, find_spot};
 use crate::note::{Mark, Note, shown};
 use crate::path::Path;
@@ -16,7 +18,9 @@ pub struct RefusedMarch<'a> {
 
 impl<'a> RefusedMarch<'a> {
     // The index of the place in the text, or of its end.
-    fn index(self) -> usize {
+    fn index(self) -> usize
+        ensures { result ≤ length self.text.now }
+    {
         self.text.len().min((self.place as usize).saturating_sub(1))
     }
 
@@ -31,7 +35,11 @@ impl<'a> RefusedMarch<'a> {
 
     // How many bytes are marked: a read has two.
     fn length(self) -> usize {
-        if self.kind == 3 || self.kind == 4 { 2 } else { 1 }
+        if self.kind == 3 || self.kind == 4 {
+            2
+        } else {
+            1
+        }
     }
 }
 

@@ -8,7 +8,11 @@ use strsim::damerau_levenshtein;
 const MOST_EDITS: usize = 2;
 
 /// The name that takes the fewest edits, the first of these; none where each takes too many.
-fn nearest<'a>(alloc: Global, word: &str, names: &[&'a str]) -> Result<Option<&'a str>, AllocError> {
+fn nearest<'a>(
+    alloc: Global,
+    word: &str,
+    names: &[&'a str],
+) -> Result<Option<&'a str>, AllocError> {
     let mut best = None;
     let mut least = MOST_EDITS + 1;
     for name in names {

@@ -12,12 +12,12 @@ use mt_replay::Status;
 use std::alloc::{AllocError, Global};
 
 // A note on a line that is refused by its tokens.
-fn token_note(
+fn token_note<'a>(
     alloc: Global,
     input: Input,
     code: u8,
-    line: Refused<'_>,
-    before: Option<&[u8]>,
+    line: Refused<'a>,
+    before: Option<&'a [u8]>,
     config: &Config,
 ) -> Result<Note, AllocError> {
     match input {
@@ -69,7 +69,12 @@ pub fn note_of(
     status: &Status,
 ) -> Result<Note, AllocError> {
     match status {
-        Status::BadConfig { code } => config_note(alloc, *code, file.head_bytes(), file.head_lines()),
+        Status::BadConfig { code } => config_note(
+            alloc,
+            *code,
+            file.head_bytes(),
+            file.head_lines(),
+        ),
         Status::BadScript { line, code, place } => {
             line_note(alloc, input, file, *code, *line as usize, *place)
         }

@@ -1,9 +1,9 @@
 //! Rules, and the row of the table that each has.
 
-ghost use Rattle.std.specs.Prelude.{◌≡◌, find, option_map};
-ghost use Rattle.mt_explain.specs.Rows.{rule_of, same_book, is_row_of};
+ghost use Rattle.std.specs.Prelude.{◌≡◌, option_map};
+ghost use Rattle.mt_explain.specs.Rows.{rule_of, same_book, same_rule, rule_in, known};
 
-use crate::table::ROWS;
+use crate::table::rows;
 use mt_replay::Status;
 
 /// What a rule is a rule of: configurations; the texts of marches; the lines of a script, of a location or of a claim; or
@@ -44,7 +44,7 @@ fn same_book(a: Book, b: Book) -> bool
 }
 
 fn is_row_of(rule: Rule, row: &Row) -> bool
-    ensures { result ≡ is_row_of rule row.now }
+    ensures { result ≡ same_rule rule (rule_in row.now) }
 {
     same_book(rule.book, row.book) && rule.number == row.number
 }
@@ -62,9 +62,9 @@ pub fn rule_of(status: &Status) -> Option<Rule>
     Some(Rule { book, number })
 }
 
-/// The row of a rule.
+/// The row of a rule, if there is such a rule.
 pub fn row_of(rule: Rule) -> Option<&'static Row>
-    ensures { option_map (λ row. row.now) result ≡ find (λ row. is_row_of rule row) ROWS }
+    ensures { option_map (λ row. rule_in row.now) result ≡ known rule }
 {
-    ROWS.iter().find(|row| is_row_of(rule, row))
+    rows().iter().find(|row| is_row_of(rule, row))
 }

@@ -32,7 +32,9 @@ fn misspelt(alloc: Global, tokens: &Tokens<'_>) -> Result<String, AllocError> {
         return format!(in alloc; "a tab is part of a word; spaces alone separate words");
     }
     if token.ends_with(b"\r") {
-        return format!(in alloc; "a carriage return is part of the word; a line feed alone ends a line");
+        return format!(in alloc;
+            "a carriage return is part of the word; a line feed alone ends a line"
+        );
     }
     format!(in alloc; "{word} may not stand here")
 }

@@ -120,10 +120,7 @@ fn is_of_kind(kind: Kind, value: &Value) -> bool {
     }
 }
 
-fn other_kind_in<'t>(
-    alloc: Global,
-    placed: Placed<'t>,
-) -> Result<Option<Finding<'t>>, AllocError> {
+fn other_kind_in<'t>(alloc: Global, placed: Placed<'t>) -> Result<Option<Finding<'t>>, AllocError> {
     for row in rows_of(placed.path.part()) {
         if let Some(value) = placed.table.get(row.key)
             && !is_of_kind(row.kind, value)

@@ -1,9 +1,11 @@
 //! The table of the rules.
 
+ghost use Rattle.std.specs.Prelude.{◌≡◌, map};
+ghost use Rattle.mt_explain.specs.Rows.{rule_in, rules};
+
 use crate::row::{Book, Row};
 
-/// The rules, each once, in the order of their numbers.
-pub static ROWS: [Row; 42] = [
+static ROWS: [Row; 42] = [
     Row {
         book: Book::Configuration,
         number: 1,
@@ -215,3 +217,10 @@ pub static ROWS: [Row; 42] = [
         sentence: "a line of the trace is not the one that the replay writes",
     },
 ];
+
+/// The rows of the rules: each rule once, in the order of books and numbers.
+pub fn rows() -> &'static [Row]
+    ensures { map rule_in result.now ≡ rules }
+{
+    &ROWS
+}

@@ -79,7 +79,10 @@ fn expected_line(alloc: Global, job: &[u8], line: u32) -> Result<Option<Vec<u8>>
 
 /// A note on a line of the trace that is not the replay's.
 pub fn trace_note(alloc: Global, file: &File<'_, '_>, line: u32) -> Result<Note, AllocError> {
-    let before = file.head.saturating_add(file.script_len()).saturating_add(1);
+    let before = file
+        .head
+        .saturating_add(file.script_len())
+        .saturating_add(1);
     let number = before.saturating_add(line as usize);
     let given = file.lines.get(number.saturating_sub(1)).copied();
     let expected = expected_line(alloc, file.job_bytes(), line)?;

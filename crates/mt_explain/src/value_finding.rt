@@ -17,7 +17,12 @@ static ALGORITHMS: [&str; 5] = [
 
 static POLICIES: [&str; 2] = ["non-destructive", "destructive"];
 
-fn at_top(alloc: Global, key: &'static str, found: String, help: &str) -> Result<Finding<'static>, AllocError> {
+fn at_top(
+    alloc: Global,
+    key: &'static str,
+    found: String,
+    help: &str,
+) -> Result<Finding<'static>, AllocError> {
     Ok(Finding {
         path: Path::Top,
         target: Target::Value(key),
@@ -30,7 +35,12 @@ fn at_top(alloc: Global, key: &'static str, found: String, help: &str) -> Result
 pub fn version(alloc: Global, table: &Table) -> Result<Finding<'static>, AllocError> {
     let version = number(table, "version");
     let found = format!(in alloc; "version is {version}")?;
-    at_top(alloc, "version", found, "write 1; or 2, for words of 64 bits and the key retries")
+    at_top(
+        alloc,
+        "version",
+        found,
+        "write 1; or 2, for words of 64 bits and the key retries",
+    )
 }
 
 /// The width that there is not.
@@ -95,7 +105,11 @@ pub fn word<'t>(alloc: Global, tables: &[Placed<'t>]) -> Result<Option<Finding<'
         Some(table) => number(table, "width") / 4,
         None => 2,
     };
-    let digits = if digits == 4 || digits == 8 || digits == 16 { digits as usize } else { 2 };
+    let digits = if digits == 4 || digits == 8 || digits == 16 {
+        digits as usize
+    } else {
+        2
+    };
     for placed in tables {
         if let Some(key) = word_key(placed.path)
             && let Some(finding) = wrong_word(alloc, *placed, digits, key)?

@@ -1,7 +1,7 @@
 //! What may stand at a place of a script line: the reader is asked.
 
-use crate::note::listed;
 use crate::nearest::suggestion;
+use crate::note::listed;
 use crate::tokens::MOST_BYTES;
 use mt_port::Shape;
 use mt_text::{LineKind, read_line};
@@ -78,7 +78,9 @@ impl<'a> Gap<'a> {
             return Ok(Some(LineKind::Spelling));
         }
         match read_line(&text, self.shape) {
-            Err(refusal) if refusal.place as usize <= self.front.len() + 1 => Ok(Some(refusal.kind)),
+            Err(refusal) if refusal.place as usize <= self.front.len() + 1 => Ok(Some(
+                refusal.kind,
+            )),
             _ => Ok(None),
         }
     }
@@ -89,20 +91,14 @@ impl<'a> Gap<'a> {
 
     /// Whether a word is refused here for its spelling as a number or a word of the memory.
     fn misspells(self, alloc: Global, word: &str) -> Result<bool, AllocError> {
-        Ok(matches!(
-            self.refusal(alloc, word)?,
-            Some(LineKind::Number)
-        ))
+        Ok(matches!(self.refusal(alloc, word)?, Some(LineKind::Number)))
     }
 
     /// Whether an address that is the smaller number of words is refused here: then that is the number that limits it.
     fn limit(self, alloc: Global) -> Result<u32, AllocError> {
         let least = self.shape.ram.min(self.shape.flash);
         let text = format!(in alloc; "{least}")?;
-        if matches!(
-            self.refusal(alloc, text.as_str())?,
-            Some(LineKind::Address)
-        ) {
+        if matches!(self.refusal(alloc, text.as_str())?, Some(LineKind::Address)) {
             Ok(least)
         } else {
             Ok(self.shape.ram.max(self.shape.flash))
@@ -130,7 +126,9 @@ impl<'a> Gap<'a> {
         }
         if !self.misspells(alloc, "f")? {
             let width = bits(self.shape.width);
-            return format!(in alloc; "a word in 1 to 16 hexadecimal digits, of at most {width} bits");
+            return format!(in alloc;
+                "a word in 1 to 16 hexadecimal digits, of at most {width} bits"
+            );
         }
         if self.misspells(alloc, "2")? {
             return String::from_str(alloc, "0 or 1");

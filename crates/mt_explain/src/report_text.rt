@@ -1,11 +1,12 @@
 //! An explanation as a text, in the form that compilers use.
 
-use crate::explain::{Explanation, Place};
+use crate::explanation::{Explanation, Place};
 use crate::row::{Book, Row};
 use std::alloc::{AllocError, Global};
 
 /// How many bytes of a line are shown, and how many of them before the place where it is long.
 const WINDOW: usize = 120;
+
 const LEAD: usize = 60;
 
 // What a book's rules are called.
@@ -101,7 +102,9 @@ fn excerpt(
     let carets = repeated(alloc, '^', shown.marked)?;
     let text = shown.text.as_str().trim_end();
     let found = &explanation.found;
-    format!(in alloc; "{gutter}--> {file}:{number}:{column}\n{gutter} |\n{line} | {text}\n{gutter} | {space}{carets} {found}\n")
+    format!(in alloc;
+        "{gutter}--> {file}:{number}:{column}\n{gutter} |\n{line} | {text}\n{gutter} | {space}{carets} {found}\n"
+    )
 }
 
 // The place of an input whose text does not show it.

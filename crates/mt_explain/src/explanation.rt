@@ -3,7 +3,8 @@
 ghost use Rattle.std.specs.Prelude.{◌≡◌, IfOk, map};
 ghost use Rattle.mt_verify.specs.Lines.{lines};
 ghost use Rattle.mt_explain.specs.Inputs.{HasStatus};
-ghost use Rattle.mt_explain.specs.Explanations.{HasRow, StandsInFile};
+ghost use Rattle.mt_explain.specs.Explanations.{IsRowOf, IsPlaceOf};
+ghost use Rattle.mt_explain.specs.Lines.{head_len};
 
 use crate::file::File;
 use crate::input::{Input, status_of};
@@ -39,7 +40,7 @@ pub struct Explanation<'a> {
 }
 
 fn row_by(status: &Status) -> Option<&'static Row>
-    ensures { HasRow status.now result }
+    ensures { IsRowOf status.now result }
 {
     match rule_of(status) {
         Some(rule) => row_of(rule),
@@ -56,7 +57,10 @@ fn march_row(note: &Note) -> Option<&'static Row> {
 }
 
 // Where the status or the note says that the input is refused.
-fn place_of<'a>(file: &[&'a [u8]], head: usize, status: &Status, note: &Note) -> Option<Place<'a>> {
+fn place_of<'a>(file: &[&'a [u8]], head: usize, status: &Status, note: &Note) -> Option<Place<'a>>
+    requires { head ≡ head_len (map (λ line. line.now) file.now) }
+    ensures { IsPlaceOf (map (λ line. line.now) file.now) status.now result }
+{
     let (line, column) = match status {
         Status::BadScript { line, place, .. } => (head + *line as usize, *place as usize),
         _ => {
@@ -71,12 +75,17 @@ fn place_of<'a>(file: &[&'a [u8]], head: usize, status: &Status, note: &Note) ->
     })
 }
 
+// The explanation of an input that gives a status.
 fn explained<'a>(
     alloc: Global,
     input: Input,
     bytes: &'a [u8],
     status: Status,
-) -> Result<Explanation<'a>, AllocError> {
+) -> Result<Explanation<'a>, AllocError>
+    ensures status { IfOk result (λ e. e.status ≡ status) }
+    ensures row { IfOk result (λ e. IsRowOf status e.row) }
+    ensures place { IfOk result (λ e. IsPlaceOf (lines bytes.now) status e.place) }
+{
     let file = lines_of(alloc, bytes)?;
     let head = head_len(&file);
     let view = File {
@@ -102,7 +111,14 @@ pub fn explain<'a>(
     alloc: Global,
     input: Input,
     bytes: &'a [u8],
-) -> Result<Explanation<'a>, NoMemory> {
+) -> Result<Explanation<'a>, NoMemory>
+    // The status is that which `replay` answers to the bytes.
+    ensures status { IfOk result (λ e. HasStatus input bytes.now e.status) }
+    // The row is that of the rule by which it refuses them.
+    ensures row { IfOk result (λ e. IsRowOf e.status e.row) }
+    // The place of a refused script line is its own; each place has the text of its line.
+    ensures place { IfOk result (λ e. IsPlaceOf (lines bytes.now) e.status e.place) }
+{
     let status = status_of(alloc, input, bytes)?;
     match explained(alloc, input, bytes, status) {
         Ok(explanation) => Ok(explanation),
