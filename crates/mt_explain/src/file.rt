@@ -1,5 +1,7 @@
 //! A file, as its lines.
 
+ghost use Rattle.std.specs.Prelude.{◌≤◌, length};
+
 use crate::lines::{is_separator, line_at};
 
 /// The most bytes of a configuration.
@@ -41,7 +43,9 @@ impl<'a, 'l> File<'a, 'l> {
     }
 
     /// The bytes of the configuration, as far as one may have them.
-    pub fn config(&self) -> &'a [u8] {
+    pub fn config(&self) -> &'a [u8]
+        ensures { length result.now ≤ 65536 }
+    {
         let head = self.head_bytes();
         &head[..head.len().min(MOST_BYTES)]
     }

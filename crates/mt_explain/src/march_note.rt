@@ -19,7 +19,7 @@ pub struct RefusedMarch<'a> {
 impl<'a> RefusedMarch<'a> {
     // The index of the place in the text, or of its end.
     fn index(self) -> usize
-        ensures { result ≤ length self.text.now }
+        ensures { result ≤ length self.entry.text.now }
     {
         self.text.len().min((self.place as usize).saturating_sub(1))
     }

@@ -1,6 +1,7 @@
 //! Rules, and the row of the table that each has.
 
-ghost use Rattle.std.specs.Prelude.{◌≡◌, option_map};
+ghost use Rattle.std.specs.Prelude.{◌≡◌, find, option_map};
+ghost use Rattle.std.specs.Option.{option_copied};
 ghost use Rattle.mt_explain.specs.Rows.{rule_of, same_book, same_rule, rule_in, known};
 
 use crate::table::rows;
@@ -62,9 +63,15 @@ pub fn rule_of(status: &Status) -> Option<Rule>
     Some(Rule { book, number })
 }
 
+fn row_in(table: &'static [Row], rule: Rule) -> Option<&'static Row>
+    ensures { option_copied result ≡ find (λ row. same_rule rule (rule_in row)) table.now }
+{
+    table.iter().find(|row| is_row_of(rule, row))
+}
+
 /// The row of a rule, if there is such a rule.
 pub fn row_of(rule: Rule) -> Option<&'static Row>
     ensures { option_map (λ row. rule_in row.now) result ≡ known rule }
 {
-    rows().iter().find(|row| is_row_of(rule, row))
+    row_in(rows(), rule)
 }
