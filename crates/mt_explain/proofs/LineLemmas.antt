@@ -1,6 +1,5 @@
--- The first line of a text, and the first separator among lines.
-use Rattle.std.proofs.Common.{ℕ, suc, ◌+◌, ◌<◌, ◌≤◌, ◌≡◌, ◌==◌, Bool, true, false, not, cond, List, [], ◌∷◌, ◌++◌, take, drop, length, map, position, Some, None, nat_lt, refl, sym, ap, ap₂, ◌∙◌, subst, arith, append-nil}
-use Rattle.std.proofs.lemmas.List.{length-map}
+-- The first line of a text, and the lines before a separator.
+use Rattle.std.proofs.Common.{ℕ, suc, ◌+◌, ◌<◌, ◌≤◌, ◌≡◌, ◌==◌, Bool, true, false, not, cond, List, [], ◌∷◌, ◌++◌, take, drop, length, map, refl, sym, ap, ◌∙◌, subst, arith, append-nil}
 use Rattle.std.specs.List.{prefix_len, onto_first}
 use Rattle.mt_verify.specs.Lines.{lines}
 
@@ -51,11 +50,7 @@ unfolding lines
 lines_end [] none xs ys e = sym (append-nil xs) ∙ e
 lines_end (x ∷ rest) none xs ys e = absurd (omega (arith, none))
 
--- the first place of a test among what a function makes
-prefix_len-map : {A B : Type 0} (f : A → B) (q : B → Bool) (xs : List A) → prefix_len q (map f xs) ≡ prefix_len (λ x. q (f x)) xs
+-- how many pass a test among what a function makes
+pub prefix_len-map : {A B : Type 0} (f : A → B) (q : B → Bool) (xs : List A) → prefix_len q (map f xs) ≡ prefix_len (λ x. q (f x)) xs
 prefix_len-map f q [] = refl
 prefix_len-map f q (x ∷ xs) = ap (λ (n : ℕ). cond (q (f x)) (1 + n) 0) (prefix_len-map f q xs)
-
-pub position-map : {A B : Type 0} (f : A → B) (p : B → Bool) (xs : List A) → position p (map f xs) ≡ position (λ x. p (f x)) xs
-position-map f p xs =
-    ap₂ (λ (n m : ℕ). cond (nat_lt n m) (Some n) None) (prefix_len-map f (λ y. not (p y)) xs) (length-map xs f)

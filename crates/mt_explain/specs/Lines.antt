@@ -1,17 +1,16 @@
 -- Where a line of a script stands in the file.
-use Rattle.std.specs.Prelude.{ℕ, ◌+◌, ◌-◌, ◌≡◌, Bool, List, [], ◌∷◌, ◌++◌, drop, position, slice_get, unwrap_or, Option, Some, None, option_map}
+use Rattle.std.specs.Prelude.{ℕ, ◌+◌, ◌-◌, ◌≡◌, Bool, List, [], ◌∷◌, ◌++◌, drop, slice_get, unwrap_or}
+use Rattle.std.specs.List.{position_or_len}
 use Rattle.std.specs.Str.{bytes_eq}
 use Rattle.mt_verify.specs.Lines.{lines}
 use Rattle.mt_replay.specs.Input.{Cut, Finished, Parted, separator, job_of}
-use Rattle.mt_replay.specs.declared.status.Status.{Status}
-use Rattle.mt_replay.specs.declared.status.Status.TheVariants.{Done, Usage, BadConfig, BadScript, ReadFault, WriteFault, NoMemory, Differs}
 
 abbrev pub is_separator : List ℕ → Bool
 is_separator line = bytes_eq line separator
 
 -- how many lines of a file a configuration has, with its separator
 abbrev pub head_len : List (List ℕ) → ℕ
-head_len file = unwrap_or (option_map (λ i. i + 1) (position is_separator file)) 0
+head_len file = position_or_len is_separator file + 1
 
 -- the line of a file with a number, counted from 1; behind the last one there is nothing
 abbrev pub line_at : List (List ℕ) → ℕ → List ℕ
@@ -27,8 +26,3 @@ abbrev pub ScriptsStandBehindHeads : Type 0
 ScriptsStandBehindHeads =
     (bytes config : List ℕ) (script : Cut) → job_of Finished bytes ≡ Parted config script
     → drop (head_len (lines bytes)) (lines bytes) ≡ with_last script.lines script.rest
-
--- where a refused script line stands, if one is refused: its number in the file
-abbrev pub refused_line : List (List ℕ) → Status → Option ℕ
-refused_line file (BadScript line code place) = Some (head_len file + line)
-refused_line file how = None

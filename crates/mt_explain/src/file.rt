@@ -27,17 +27,11 @@ fn byte_count(lines: &[&[u8]]) -> usize {
 impl<'a, 'l> File<'a, 'l> {
     /// The lines of the configuration, without its separator; all where there is none.
     pub fn head_lines(&self) -> &'l [&'a [u8]] {
-        if self.head == 0 {
-            return self.lines;
-        }
-        &self.lines[..self.lines.len().min(self.head - 1)]
+        &self.lines[..self.lines.len().min(self.head.saturating_sub(1))]
     }
 
     /// The bytes of the configuration; all where there is no separator.
     pub fn head_bytes(&self) -> &'a [u8] {
-        if self.head == 0 {
-            return self.bytes;
-        }
         let count = byte_count(self.head_lines());
         &self.bytes[..self.bytes.len().min(count)]
     }

@@ -8,6 +8,7 @@ mod file;
 mod find;
 mod finding;
 mod input;
+mod laws;
 mod lines;
 mod location_note;
 mod march_note;
@@ -27,6 +28,7 @@ mod vocabulary;
 
 pub use explanation::{Explanation, Place, explain};
 pub use input::{Input, status_of};
+pub use laws::scripts_stand_behind_heads;
 pub use report_text::{report, rule_name};
 pub use row::{Book, Row, Rule, row_of, rule_of};
 pub use table::rows;

@@ -1,7 +1,7 @@
 //! The lines of a file.
 
-ghost use Rattle.std.specs.Prelude.{◌≡◌, ◌<◌, ◌≤◌, ◌∷◌, ◌==◌, not, length, map, position, IfOk};
-ghost use Rattle.std.specs.List.{prefix_len};
+ghost use Rattle.std.specs.Prelude.{◌≡◌, ◌<◌, ◌≤◌, ◌∷◌, ◌==◌, not, length, map, ◌+◌, IfOk};
+ghost use Rattle.std.specs.List.{prefix_len, position_or_len};
 ghost use Rattle.mt_verify.specs.Lines.{lines};
 ghost use Rattle.mt_explain.specs.Lines.{is_separator, head_len, line_at};
 
@@ -53,21 +53,20 @@ pub fn is_separator(line: &[u8]) -> bool
     line == SEPARATOR
 }
 
-fn separator_index(file: &[&[u8]]) -> Option<usize>
-    ensures { result ≡ position (λ line. is_separator line.now) file.now }
+// How many lines come before the first separator.
+fn config_len(file: &[&[u8]]) -> usize
+    ensures value { result ≡ position_or_len (λ line. is_separator line.now) file.now }
+    ensures fits { result ≤ length file.now }
 {
-    file.iter().position(|line| is_separator(line))
+    file.iter().take_while(|line| !is_separator(line)).count()
 }
 
 /// How many lines the configuration has, with its separator.
 pub fn head_len(file: &[&[u8]]) -> usize
     ensures value { result ≡ head_len (map (λ line. line.now) file.now) }
-    ensures fits { result ≤ length file.now }
+    ensures fits { result ≤ length file.now + 1 }
 {
-    match separator_index(file) {
-        Some(index) => index + 1,
-        None => 0,
-    }
+    config_len(file) + 1
 }
 
 /// The line with a number, counted from 1; nothing behind the last one.
