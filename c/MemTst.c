@@ -1,74 +1,83 @@
 #include "MemTst.h"
 #include "MemTst_Hooks.h"
 
-/* The words that a test keeps. */
+/* The words that a test keeps, the backgrounds of its cells if these are not the words kept, and how far it is in its plan. */
 static MemTst_WordType MemTst_Saved[MEMTST_MOST_CELLS];
+static MemTst_WordType MemTst_Backgrounds[MEMTST_MOST_CELLS];
+static const uint8 *volatile MemTst_Reached;
+
+/* What an urgent interrupt is asked for by, in an attempt that it ends and in one that it does not end. */
+#define MEMTST_HEED ((uint32)0xFFFFFFFFu)
+#define MEMTST_HEED_NOT ((uint32)0u)
+
+static uint32 MemTst_Heed(const MemTst_SliceType *slice)
+{
+    return (slice->droppable != FALSE) ? MEMTST_HEED : MEMTST_HEED_NOT;
+}
 
 /* Saves the words. TRUE if an urgent interrupt asks meanwhile; then nothing was written. */
 static boolean MemTst_Save(const MemTst_SliceType *slice)
 {
+    const MemTst_BaseType base = MEMTST_BASE(slice->first);
     const uint32 cells = slice->plan->cells;
-    const uint32 first = slice->first;
-    const boolean droppable = slice->droppable;
+    const uint32 heed = MemTst_Heed(slice);
     uint32 cell;
 
     for (cell = 0u; cell < cells; cell++) {
-        MemTst_Saved[cell] = MEMTST_LOAD(first + cell);
-        if ((droppable != FALSE) && (MEMTST_URGENT() != 0u)) {
+        MemTst_Saved[cell] = MEMTST_LOAD(base, cell);
+        if ((MEMTST_URGENT() & heed) != 0u) {
             return TRUE;
         }
     }
     return FALSE;
 }
 
-/* Carries the plan out. */
+/* Carries the plan out, as far as an urgent interrupt lets it. A plan has a step. */
 static uint32 MemTst_CarryOut(const MemTst_SliceType *slice)
 {
-    const uint32 first = slice->first;
-    const uint32 count = slice->plan->count;
-    const uint8 *const steps = slice->plan->steps;
-    const MemTst_WordType *const background = (slice->own != FALSE) ? MemTst_Saved : &slice->background;
-    const uint32 places = (slice->own != FALSE) ? (MEMTST_MOST_CELLS - 1u) : 0u;
-    const uint32 last = (slice->droppable != FALSE) ? (count - 1u) : 0u;
+    const MemTst_BaseType base = MEMTST_BASE(slice->first);
+    const uint8 *const end = &slice->plan->steps[slice->plan->count];
+    const MemTst_WordType *const backgrounds = (slice->own != FALSE) ? MemTst_Saved : MemTst_Backgrounds;
+    const uint32 heed = MemTst_Heed(slice);
+    const uint8 *at = slice->plan->steps;
     MemTst_WordType differs = 0u;
-    uint32 made = 0u;
 
-    while (made < count) {
-        const uint32 step = steps[made];
+    do {
+        const uint32 step = *at;
         const uint32 cell = step >> MEMTST_STEP_CELL;
         const MemTst_WordType flip = (MemTst_WordType)(0u - (MemTst_WordType)(step & MEMTST_STEP_FLIPPED));
-        const MemTst_WordType word = (MemTst_WordType)(background[cell & places] ^ flip);
+        const MemTst_WordType word = (MemTst_WordType)(backgrounds[cell] ^ flip);
 
         if ((step & MEMTST_STEP_WRITE) != 0u) {
-            MEMTST_STORE(first + cell, word);
+            MEMTST_STORE(base, cell, word);
             MEMTST_BARRIER();
         } else {
-            const MemTst_WordType answer = MEMTST_LOAD(first + cell);
-            differs = (MemTst_WordType)(differs | (answer ^ word));
+            differs = (MemTst_WordType)(differs | (MEMTST_LOAD(base, cell) ^ word));
         }
-        if ((made < last) && (MEMTST_URGENT() != 0u)) {
-            return MEMTST_DROPPED;
+        at++;
+        MemTst_Reached = at;
+        if (at == end) {
+            return (differs == 0u) ? MEMTST_PASS : MEMTST_FAIL;
         }
-        made++;
-    }
-    return ((differs == 0u) && (made == count)) ? MEMTST_PASS : MEMTST_FAIL;
+    } while ((MEMTST_URGENT() & heed) == 0u);
+    return MEMTST_DROPPED;
 }
 
 /* Leaves the words that were saved, or the fill. */
 static void MemTst_Leave(const MemTst_SliceType *slice)
 {
+    const MemTst_BaseType base = MEMTST_BASE(slice->first);
     const uint32 cells = slice->plan->cells;
-    const uint32 first = slice->first;
     const MemTst_WordType fill = slice->fill;
     uint32 cell;
 
     if (slice->destructive != FALSE) {
         for (cell = 0u; cell < cells; cell++) {
-            MEMTST_STORE(first + cell, fill);
+            MEMTST_STORE(base, cell, fill);
         }
     } else {
         for (cell = 0u; cell < cells; cell++) {
-            MEMTST_STORE(first + cell, MemTst_Saved[cell]);
+            MEMTST_STORE(base, cell, MemTst_Saved[cell]);
         }
     }
     MEMTST_BARRIER();
@@ -82,14 +91,29 @@ static uint32 MemTst_Attempt(const MemTst_SliceType *slice)
     if ((slice->destructive != FALSE) || (MemTst_Save(slice) == FALSE)) {
         verdict = MemTst_CarryOut(slice);
         MemTst_Leave(slice);
+        if ((verdict == MEMTST_PASS) && ((MemTst_Reached - slice->plan->steps) != (int32_t)slice->plan->count)) {
+            verdict = MEMTST_FAIL;
+        }
     }
     return verdict;
+}
+
+/* Lays out the background of each cell, before the lock. */
+static void MemTst_LayOut(const MemTst_SliceType *slice)
+{
+    const uint32 cells = slice->plan->cells;
+    uint32 cell;
+
+    for (cell = 0u; cell < cells; cell++) {
+        MemTst_Backgrounds[cell] = slice->background;
+    }
 }
 
 uint32 MemTst_Slice(const MemTst_SliceType *slice, const volatile boolean *barred)
 {
     uint32 verdict = MEMTST_BARRED;
 
+    MemTst_LayOut(slice);
     MEMTST_ENTER();
     if (*barred == FALSE) {
         verdict = MemTst_Attempt(slice);

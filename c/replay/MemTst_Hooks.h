@@ -9,8 +9,10 @@
 #define MEMTST_BARRIER() ((void)0)
 #define MEMTST_URGENT() board_is_urgent()
 
-#define MEMTST_LOAD(number) ((MemTst_WordType)board_load(number))
-#define MEMTST_STORE(number, word) board_store((number), (word))
+typedef uint32 MemTst_BaseType;
+#define MEMTST_BASE(number) (number)
+#define MEMTST_LOAD(base, cell) ((MemTst_WordType)board_load((base) + (cell)))
+#define MEMTST_STORE(base, cell, word) board_store((base) + (cell), (word))
 #define MEMTST_FLASH_LOAD(number) ((MemTst_WordType)board_load_flash(number))
 
 /* The boundary of an event: what a sequence left was entered, so that the requests that are due are served. */

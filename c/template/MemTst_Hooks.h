@@ -21,10 +21,12 @@
 /* #define MEMTST_RAM ((volatile MemTst_WordType *)0x20000000u) */
 /* #define MEMTST_FLASH ((const volatile MemTst_WordType *)0x08000000u) */
 
-/* One access of the word with this number. */
-#define MEMTST_LOAD(number) (*(MEMTST_RAM + (number)))
-#define MEMTST_STORE(number, word) (*(MEMTST_RAM + (number)) = (word))
-#define MEMTST_FLASH_LOAD(number) (*(MEMTST_FLASH + (number)))
+/* One access of a cell, counted from the RAM word with this number; and one of the flash word with this number. */
+typedef volatile MemTst_WordType *MemTst_BaseType;
+#define MEMTST_BASE(number) (MEMTST_RAM + (number))
+#define MEMTST_LOAD(base, cell) ((base)[(cell)])
+#define MEMTST_STORE(base, cell, word) ((base)[(cell)] = (word))
+#define MEMTST_FLASH_LOAD(number) (MEMTST_FLASH[(number)])
 
 /* Locks all contexts that call a service of the module, for a few assignments. Never nested. */
 #define RAMTST_ENTER() ((void)0)
