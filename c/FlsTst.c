@@ -13,7 +13,7 @@ static volatile uint8 FlsTst_State;
 static volatile uint8 FlsTst_Back;     /* the state in which the foreground test was taken */
 static volatile boolean FlsTst_Busy;   /* a running call is under way */
 static volatile boolean FlsTst_Mark;   /* an Abort or a Suspend was accepted in this event */
-static volatile boolean FlsTst_Begun;  /* the interval was dropped in this event */
+static volatile boolean FlsTst_Begun;  /* the interval was dropped since the group began */
 static FlsTst_PlaceType FlsTst_Place;  /* the position */
 static boolean FlsTst_Failed;          /* whether the interval under way has failed */
 static FlsTst_TestResultBgndType FlsTst_Completed;
@@ -309,11 +309,16 @@ static boolean FlsTst_CompareBgnd(FlsTst_PlaceType *place, boolean *failed)
 /* The group at the position: as many next slices of the interval as the words of a tick allow. */
 static void FlsTst_Group(void)
 {
-    FlsTst_PlaceType place = FlsTst_Place;
-    boolean failed = FlsTst_Failed;
+    FlsTst_PlaceType place;
+    boolean failed;
     uint32 left = FlsTst_Taken->cells;
     boolean more = (FlsTst_Taken->number_of_bgnd != 0u) ? TRUE : FALSE;
 
+    FLSTST_ENTER();
+    place = FlsTst_Place;
+    failed = FlsTst_Failed;
+    FlsTst_Begun = FALSE;
+    FLSTST_EXIT();
     while (more != FALSE) {
         const uint32 words = FlsTst_Words(&FlsTst_Taken->bgnd[place.block], place.slice);
 
@@ -334,7 +339,6 @@ static boolean FlsTst_Begin(uint8 service)
         FLSTST_ENTER();
         FlsTst_Busy = TRUE;
         FlsTst_Mark = FALSE;
-        FlsTst_Begun = FALSE;
         FLSTST_EXIT();
     }
     return free;

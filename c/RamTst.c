@@ -13,7 +13,7 @@ static const RamTst_ConfigType *RamTst_Taken;
 static volatile uint8 RamTst_State;
 static volatile boolean RamTst_Busy;   /* a running call is under way */
 static volatile boolean RamTst_Mark;   /* a Stop or a Suspend was accepted in this event */
-static volatile boolean RamTst_Begun;  /* the pass was stopped or begun anew in this event */
+static volatile boolean RamTst_Begun;  /* the pass was stopped or begun anew since the group began */
 static RamTst_TestType RamTst_Pass;    /* the position, and what is kept for the pass */
 static uint32 RamTst_Selected;
 static uint32 RamTst_Cells;
@@ -443,7 +443,6 @@ static boolean RamTst_Begin(uint8 service)
         RAMTST_ENTER();
         RamTst_Busy = TRUE;
         RamTst_Mark = FALSE;
-        RamTst_Begun = FALSE;
         RAMTST_EXIT();
     }
     return free;
@@ -478,10 +477,15 @@ static void RamTst_Leave(uint8 back)
 /* The group at the position: as many next slices of the pass as the words of a tick allow. */
 static void RamTst_Group(void)
 {
-    RamTst_TestType test = RamTst_Pass;
-    uint32 left = RamTst_Cells;
+    RamTst_TestType test;
+    uint32 left;
     boolean more = TRUE;
 
+    RAMTST_ENTER();
+    test = RamTst_Pass;
+    left = RamTst_Cells;
+    RamTst_Begun = FALSE;
+    RAMTST_EXIT();
     while ((more != FALSE) && (RamTst_PlanOf(&test)->cells <= left)) {
         boolean ends_block = FALSE;
 
