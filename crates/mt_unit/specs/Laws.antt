@@ -1,5 +1,5 @@
 -- What plans are, said from outside.
-use Rattle.std.specs.Prelude.{ℕ, ◌+◌, ◌≤◌, ◌≡◌, Bool, true, false, ◌&&◌, nat_lt, List, [], ◌++◌, map, take, length, Option, Some, None, if◌then◌else◌, find, slice_index}
+use Rattle.std.specs.Prelude.{ℕ, ◌+◌, ◌<◌, ◌≤◌, ◌≡◌, Bool, true, false, ◌&&◌, nat_lt, List, [], ◌++◌, map, take, length, Option, Some, None, if◌then◌else◌, find, slice_index}
 use Rattle.mt_word.specs.declared.Width.{Width}
 use Rattle.mt_fault.specs.Items.{Item, Store}
 use Rattle.mt_plan.specs.Lists.{cells}
@@ -39,3 +39,16 @@ PlansMakeTheSequence =
     (width : Width) (job : Job) (slice : Slice) (answers : List ℕ) (waits : ℕ → Bool) → 1 ≤ length (steps_of job.alg slice.n)
     → carried width job slice (plan_of job.alg slice.n) answers waits
     ≡ attempt_told width job slice answers (find (λ i. keeps_words job.policy && waits i) (moments job.alg slice.n))
+
+-- accesses of which these are the last
+pub record EndsIn (items final : List Item) : Type 0 where
+  pub before : List Item
+  pub is : items ≡ before ++ final
+
+-- However an attempt ends that has made more than the saving reads, whatever its plan is and whatever the memory answers: the last
+-- accesses are one write for each cell, in rising order, of what its saving read answered, or of the fill in a destructive slice.
+abbrev pub WordsComeBack : Type 0
+WordsComeBack =
+    (width : Width) (job : Job) (slice : Slice) (plan answers : List ℕ) (waits : ℕ → Bool)
+    → length (saving job.policy slice) < length (carried width job slice plan answers waits).made
+    → EndsIn (carried width job slice plan answers waits).made (ending job slice (saved_of job slice answers))

@@ -4,5 +4,5 @@
 mod laws;
 mod plan;
 
-pub use laws::plans_are_the_steps;
+pub use laws::{plans_are_the_steps, plans_make_the_sequence};
 pub use plan::{push_plan, read_byte, step_byte};
