@@ -30,8 +30,8 @@ abbrev carried_in : (ℕ → Bool) → (saves steps final : List Item) → Verdi
 carried_in heeded saves steps final verdict =
     if is_stopped heeded 0 saves then record { made = polled heeded 0 saves; verdict = None }
     else (if is_stopped heeded (length saves) (but_last steps)
-        then record { made = saves ++ polled heeded (length saves) (but_last steps) ++ final; verdict = None }
-        else record { made = saves ++ steps ++ final; verdict = Some verdict })
+    then record { made = saves ++ polled heeded (length saves) (but_last steps) ++ final; verdict = None }
+    else record { made = saves ++ steps ++ final; verdict = Some verdict })
 
 -- the attempt, with any lists
 abbrev told_in : ℕ → (items final : List Item) → Verdict → Option ℕ → Carried
@@ -51,10 +51,12 @@ core heeded saves steps final verdict n long all are some = early (is_stopped he
   where
     told : Option ℕ → Carried
     told = told_in n (saves ++ steps ++ final) final verdict
+
     inside : (b : Bool) → Carried
     inside b =
         if b then record { made = saves ++ polled heeded (length saves) (but_last steps) ++ final; verdict = None }
         else record { made = saves ++ steps ++ final; verdict = Some verdict }
+
     late : (b : Bool) → is_stopped heeded 0 saves ≡ false → is_stopped heeded (length saves) (but_last steps) ≡ b
         → inside b ≡ told (find heeded (range_with_len 1 (n + long - 1)))
     late true on is =
@@ -64,22 +66,22 @@ core heeded saves steps final verdict n long all are some = early (is_stopped he
         let none : find heeded (range_with_len 1 n) ≡ None = ap (λ (k : ℕ). find heeded (range_with_len 1 k)) (sym all) ∙ goes_on heeded 0 saves on in
         let from : 1 + n ≡ length saves + 1 = omega (arith, all) in
         let found : find heeded (range_with_len 1 (n + long - 1)) ≡ Some at =
-            first_moment heeded n long some
-            ∙ ap (λ (o : Option ℕ). option_or o (find heeded (range_with_len (1 + n) (long - 1)))) none
-            ∙ ap (λ (k : ℕ). find heeded (range_with_len k (long - 1))) from
-            ∙ ap (λ (k : ℕ). find heeded (range_with_len (length saves + 1) k)) (sym few)
-            ∙ stop.found in
+        first_moment heeded n long some
+        ∙ ap (λ (o : Option ℕ). option_or o (find heeded (range_with_len (1 + n) (long - 1)))) none
+        ∙ ap (λ (k : ℕ). find heeded (range_with_len k (long - 1))) from
+        ∙ ap (λ (k : ℕ). find heeded (range_with_len (length saves + 1) k)) (sym few)
+        ∙ stop.found in
         let behind : nat_lt n at ≡ true = lt-ltb n at (omega (arith, stop.after, all)) in
         let rest : ℕ = at - length saves in
         let whole : length saves + rest ≡ at = omega (arith, stop.after) in
         let short : at ≤ length (saves ++ steps) = omega (arith, stop.within, few, are, some, length-append saves steps) in
         let made : polled heeded (length saves) (but_last steps) ≡ take rest steps =
-            stop.makes ∙ take-but_last steps rest (omega (arith, stop.within, few, are)) in
+        stop.makes ∙ take-but_last steps rest (omega (arith, stop.within, few, are)) in
         let front : saves ++ polled heeded (length saves) (but_last steps) ≡ take at (saves ++ steps ++ final) =
-            ap (λ (l : List Item). saves ++ l) made
-            ∙ sym (take-append-add saves steps rest)
-            ∙ ap (λ (k : ℕ). take k (saves ++ steps)) whole
-            ∙ sym (take-append-le at (saves ++ steps) final short) in
+        ap (λ (l : List Item). saves ++ l) made
+        ∙ sym (take-append-add saves steps rest)
+        ∙ ap (λ (k : ℕ). take k (saves ++ steps)) whole
+        ∙ sym (take-append-le at (saves ++ steps) final short) in
         ap (λ (l : List Item). record { made = l ++ final; verdict = None }) front
         ∙ ap (λ (b : Bool). record { made = take at (saves ++ steps ++ final) ++ (if b then final else []); verdict = None }) (sym behind)
         ∙ ap told (sym found)
@@ -88,28 +90,30 @@ core heeded saves steps final verdict n long all are some = early (is_stopped he
         let none : find heeded (range_with_len 1 n) ≡ None = ap (λ (k : ℕ). find heeded (range_with_len 1 k)) (sym all) ∙ goes_on heeded 0 saves on in
         let from : 1 + n ≡ length saves + 1 = omega (arith, all) in
         let found : find heeded (range_with_len 1 (n + long - 1)) ≡ None =
-            first_moment heeded n long some
-            ∙ ap (λ (o : Option ℕ). option_or o (find heeded (range_with_len (1 + n) (long - 1)))) none
-            ∙ ap (λ (k : ℕ). find heeded (range_with_len k (long - 1))) from
-            ∙ ap (λ (k : ℕ). find heeded (range_with_len (length saves + 1) k)) (sym few)
-            ∙ goes_on heeded (length saves) (but_last steps) is in
+        first_moment heeded n long some
+        ∙ ap (λ (o : Option ℕ). option_or o (find heeded (range_with_len (1 + n) (long - 1)))) none
+        ∙ ap (λ (k : ℕ). find heeded (range_with_len k (long - 1))) from
+        ∙ ap (λ (k : ℕ). find heeded (range_with_len (length saves + 1) k)) (sym few)
+        ∙ goes_on heeded (length saves) (but_last steps) is in
         ap told (sym found)
+
     outside : (b : Bool) → Carried
     outside b = if b then record { made = polled heeded 0 saves; verdict = None } else inside (is_stopped heeded (length saves) (but_last steps))
+
     early : (b : Bool) → is_stopped heeded 0 saves ≡ b → carried_in heeded saves steps final verdict ≡ told (find heeded (range_with_len 1 (n + long - 1)))
     early true is =
         let stop : Stops heeded 0 saves = stops heeded 0 saves is in
         let at : ℕ = stop.at in
         let first : find heeded (range_with_len 1 n) ≡ Some at = ap (λ (k : ℕ). find heeded (range_with_len 1 k)) (sym all) ∙ stop.found in
         let found : find heeded (range_with_len 1 (n + long - 1)) ≡ Some at =
-            first_moment heeded n long some ∙ ap (λ (o : Option ℕ). option_or o (find heeded (range_with_len (1 + n) (long - 1)))) first in
+        first_moment heeded n long some ∙ ap (λ (o : Option ℕ). option_or o (find heeded (range_with_len (1 + n) (long - 1)))) first in
         let before : nat_lt n at ≡ false = le-ltb n at (omega (arith, stop.within, all)) in
         let same : at - 0 ≡ at = omega arith in
         let front : polled heeded 0 saves ≡ take at (saves ++ steps ++ final) =
-            stop.makes
-            ∙ ap (λ (k : ℕ). take k saves) same
-            ∙ sym (take-append-le at saves steps (omega (arith, stop.within)))
-            ∙ sym (take-append-le at (saves ++ steps) final (omega (arith, stop.within, length-append saves steps))) in
+        stop.makes
+        ∙ ap (λ (k : ℕ). take k saves) same
+        ∙ sym (take-append-le at saves steps (omega (arith, stop.within)))
+        ∙ sym (take-append-le at (saves ++ steps) final (omega (arith, stop.within, length-append saves steps))) in
         ap outside is
         ∙ ap (λ (l : List Item). record { made = l; verdict = None }) (front ∙ sym (append-nil (take at (saves ++ steps ++ final))))
         ∙ ap (λ (b : Bool). record { made = take at (saves ++ steps ++ final) ++ (if b then final else []); verdict = None }) (sym before)
@@ -136,6 +140,7 @@ agreed width job slice answers =
   where
     steps : List Item
     steps = testing width job slice (saved_of job slice answers) (steps_of job.alg slice.n)
+
     after : (policy : Policy) → all_agreed (saving policy slice ++ steps) answers ≡ all_agreed steps (drop (length (saving policy slice)) answers)
     after Destructive = refl
     after NonDestructive =
@@ -159,17 +164,21 @@ plans_make width job slice answers waits some =
     ap (λ (l : List Item). carried_in heeded saves l final (verdict_of (all_agreed l (drop (length saves) answers))))
     (accesses_are width slice.first (back_of job (saved_of job slice answers)) (steps_of job.alg slice.n))
     ∙ under_policy waits slice tested final (verdict_of (all_agreed tested (drop (length saves) answers))) (length (steps_of job.alg slice.n))
-        (length-map (steps_of job.alg slice.n) (item_of width slice.first (back_of job (saved_of job slice answers)))) some job.policy
+    (length-map (steps_of job.alg slice.n) (item_of width slice.first (back_of job (saved_of job slice answers)))) some job.policy
     ∙ as_told (find heeded (moments job.alg slice.n))
   where
     heeded : ℕ → Bool
     heeded = λ (i : ℕ). keeps_words job.policy && waits i
+
     saves : List Item
     saves = saving job.policy slice
+
     tested : List Item
     tested = testing width job slice (saved_of job slice answers) (steps_of job.alg slice.n)
+
     final : List Item
     final = ending job slice (saved_of job slice answers)
+
     as_told : (o : Option ℕ) → told_in slice.n (saves ++ tested ++ final) final (verdict_of (all_agreed tested (drop (length saves) answers))) o ≡ attempt_told width job slice answers o
     as_told None = ap (λ (b : Bool). record { made = sequence_told width job slice answers; verdict = Some (verdict_of b) }) (sym (agreed width job slice answers))
     as_told (Some i) = refl
@@ -189,19 +198,25 @@ words_come_back width job slice plan answers waits more = here (is_stopped heede
   where
     heeded : ℕ → Bool
     heeded = λ (i : ℕ). keeps_words job.policy && waits i
+
     saves : List Item
     saves = saving job.policy slice
+
     steps : List Item
     steps = map (Rattle.mt_unit.specs.Carrying.access_for width slice.first (back_of job (saved_of job slice answers))) plan
+
     final : List Item
     final = ending job slice (saved_of job slice answers)
+
     verdict : Verdict
     verdict = verdict_of (all_agreed steps (drop (length saves) answers))
+
     outcome : Bool → Bool → Carried
     outcome early late =
         if early then record { made = polled heeded 0 saves; verdict = None }
         else (if late then record { made = saves ++ polled heeded (length saves) (but_last steps) ++ final; verdict = None }
-            else record { made = saves ++ steps ++ final; verdict = Some verdict })
+        else record { made = saves ++ steps ++ final; verdict = Some verdict })
+
     here : (early late : Bool) → length saves < length (outcome early late).made → EndsIn (outcome early late).made final
     here true late long = absurd (omega (arith, long, polled_short heeded 0 saves))
     here false true long = record { before = saves ++ polled heeded (length saves) (but_last steps); is = refl }

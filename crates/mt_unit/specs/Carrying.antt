@@ -49,5 +49,5 @@ carried width job slice plan answers waits =
     let steps = map (access_for width slice.first (back_of job saved)) plan in
     if is_stopped heeded 0 saves then record { made = polled heeded 0 saves; verdict = None }
     else (if is_stopped heeded (length saves) (but_last steps)
-        then record { made = saves ++ polled heeded (length saves) (but_last steps) ++ ending job slice saved; verdict = None }
-        else record { made = saves ++ steps ++ ending job slice saved; verdict = Some (verdict_of (all_agreed steps (drop (length saves) answers))) })
+    then record { made = saves ++ polled heeded (length saves) (but_last steps) ++ ending job slice saved; verdict = None }
+    else record { made = saves ++ steps ++ ending job slice saved; verdict = Some (verdict_of (all_agreed steps (drop (length saves) answers))) })

@@ -1,3 +1,5 @@
 pub mod Carrying
+pub mod FlsCells
 pub mod Laws
 pub mod Plans
+pub mod RamCells

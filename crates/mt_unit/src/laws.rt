@@ -1,5 +1,7 @@
 //! Laws of plans.
 
+ghost use Rattle.mt_unit.specs.FlsCells.{FlsCellsAreTheTable};
+ghost use Rattle.mt_unit.specs.RamCells.{RamCellsAreTheTable};
 ghost use Rattle.mt_unit.specs.Laws.{PlansAreTheSteps, PlansMakeTheSequence, WordsComeBack};
 
 /// A plan reads back as the steps of its algorithm.
@@ -13,4 +15,10 @@ pub fn plans_are_the_steps()
 pub fn plans_make_the_sequence()
     ensures makes { PlansMakeTheSequence }
     ensures back { WordsComeBack }
+{}
+
+/// The cells of the unit's tables say what those of the state tables say by which the modules are proved.
+pub fn cells_are_the_tables()
+    ensures ram { RamCellsAreTheTable }
+    ensures fls { FlsCellsAreTheTable }
 {}

@@ -1,8 +1,14 @@
 //! What a control unit is given for a configuration: plans and tables, which a loop in C carries out.
 #![tactic(auto)]
 
+mod cell;
+mod fls_cells;
 mod laws;
 mod plan;
+mod ram_cells;
 
-pub use laws::{plans_are_the_steps, plans_make_the_sequence};
+pub use cell::CellReply;
+pub use fls_cells::{FlsColumn, FlsRow, FlsTableCell, fls_cell};
+pub use laws::{cells_are_the_tables, plans_are_the_steps, plans_make_the_sequence};
 pub use plan::{push_plan, read_byte, step_byte};
+pub use ram_cells::{RamColumn, RamRow, RamTableCell, ram_cell};
