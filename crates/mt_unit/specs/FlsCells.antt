@@ -39,7 +39,7 @@ column_of states.Init = columns.Init
 column_of (states.Running p) = columns.Running
 column_of (states.Suspended p) = columns.Suspended
 column_of states.Aborted = columns.Aborted
-column_of (states.Foreground back) = columns.Foreground
+column_of (states.Foreground b) = columns.Foreground
 
 -- a cell whose call is taken, and goes on in a column; one whose call is refused
 abbrev pub taken : FlsColumn → FlsTableCell

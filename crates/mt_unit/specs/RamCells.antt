@@ -45,7 +45,7 @@ column_of states.Stopped = columns.Stopped
 column_of (states.Running p) = columns.Running
 column_of (states.Suspended p) = columns.Suspended
 column_of states.Full = columns.Full
-column_of (states.Partial back) = columns.Partial
+column_of (states.Partial b) = columns.Partial
 
 -- a cell whose call is taken, and goes on in a column; one whose call is refused
 abbrev pub taken : RamColumn → RamTableCell
