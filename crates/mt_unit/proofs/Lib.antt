@@ -1,5 +1,6 @@
 pub mod Bytes
 pub mod Carrying
+pub mod Checksums
 pub mod FlsCells
 pub mod Making
 pub mod RamCells

@@ -1,4 +1,5 @@
 pub mod Carrying
+pub mod Checksums
 pub mod FlsCells
 pub mod Laws
 pub mod Plans

@@ -2,12 +2,14 @@
 #![tactic(auto)]
 
 mod cell;
+mod crc;
 mod fls_cells;
 mod laws;
 mod plan;
 mod ram_cells;
 
 pub use cell::CellReply;
+pub use crc::checksum;
 pub use fls_cells::{FlsColumn, FlsRow, FlsTableCell, fls_cell};
 pub use laws::{cells_are_the_tables, plans_are_the_steps, plans_make_the_sequence};
 pub use plan::{push_plan, read_byte, step_byte};
