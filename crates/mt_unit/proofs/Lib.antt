@@ -4,3 +4,4 @@ pub mod Checksums
 pub mod FlsCells
 pub mod Making
 pub mod RamCells
+pub mod Ranges

@@ -4,3 +4,4 @@ pub mod FlsCells
 pub mod Laws
 pub mod Plans
 pub mod RamCells
+pub mod Tables

@@ -5,12 +5,16 @@ mod cell;
 mod crc;
 mod fls_cells;
 mod laws;
+mod numbers;
 mod plan;
 mod ram_cells;
+mod tables;
 
 pub use cell::CellReply;
 pub use crc::checksum;
 pub use fls_cells::{FlsColumn, FlsRow, FlsTableCell, fls_cell};
 pub use laws::{cells_are_the_tables, plans_are_the_steps, plans_make_the_sequence};
+pub use numbers::{fls_numbers, ram_numbers};
 pub use plan::{push_plan, read_byte, step_byte};
 pub use ram_cells::{RamColumn, RamRow, RamTableCell, ram_cell};
+pub use tables::{lengths_of, rest_in, slices_in, words_in};

@@ -51,14 +51,14 @@ pub fn read_byte(byte: u8) -> Step
 }
 
 /// Appends the plan of an algorithm for n cells.
-pub fn push_plan(algorithm: &Algorithm, n: u32, out: &mut Vec<u8>) -> Result<(), AllocError>
+pub fn push_plan(algorithm: &Algorithm, n: u32, out: &mut Vec<u64>) -> Result<(), AllocError>
     requires accepted { IsAccepted algorithm.now }
     requires some { 1 ≤ n }
     requires small { n ≤ 64 }
     ensures { OnOk result (out.new.items ≡ out.old.items ++ plan_of algorithm.now n) }
 {
     for index in 0..steps(algorithm, n) {
-        out.push(step_byte(step_at(algorithm, n, index)))?;
+        out.push(u64::from(step_byte(step_at(algorithm, n, index))))?;
     }
     Ok(())
 }

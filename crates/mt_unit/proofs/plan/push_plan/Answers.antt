@@ -11,11 +11,11 @@ loop-index-preserved c =
     let steps : List Step = steps_of c.args.algorithm.now c.args.n in
     let out : List ℕ = c.args.out.now.items in
     let taken : List Step = take c.loop-index.index steps in
-    let byte : ℕ = c.step_byte.result in
+    let byte : ℕ = c.from.result in
     c.in_ok-push.ensures.items
     ∙ ap (λ (l : List ℕ). l ++ byte ∷ []) c.loop-index.invariant
     ∙ append_assoc out (map byte_of taken) (byte ∷ [])
-    ∙ ap (λ (b : ℕ). out ++ (map byte_of taken ++ b ∷ [])) c.step_byte.ensures
+    ∙ ap (λ (b : ℕ). out ++ (map byte_of taken ++ b ∷ [])) (c.from.ensures ∙ c.step_byte.ensures)
     ∙ ap (λ (l : List ℕ). out ++ l) (sym (map-append byte_of taken (c.step_at.result ∷ [])))
     ∙ ap (λ (l : List Step). out ++ map byte_of l) (sym (one_more steps c.loop-index.index c.step_at.result c.step_at.ensures.step))
 
