@@ -4,4 +4,5 @@ pub mod FlsCells
 pub mod Laws
 pub mod Plans
 pub mod RamCells
+pub mod StateTables
 pub mod Tables

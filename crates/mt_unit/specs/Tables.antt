@@ -13,6 +13,7 @@ use Rattle.mt_blocks.specs.declared.span.Span.{Span}
 use Rattle.mt_seq.specs.Sequence.{is_transparent}
 use Rattle.mt_unit.specs.Checksums.{checksum}
 use Rattle.mt_unit.specs.Plans.{plan_of}
+use Rattle.mt_unit.specs.StateTables.{fls_table, ram_table}
 
 -- how many words a span has, in how many slices of at most so many words, and how many words the last of these has
 abbrev pub words_in : Span → ℕ
@@ -79,9 +80,9 @@ set_row set = set_fields set ++ checksum 8 (set_fields set ++ blocks_table set) 
 abbrev pub set_tables : ParamSet → List ℕ
 set_tables set = flat_map (plan_of set.alg) (lengths_of set) ++ flat_map (plan_row set.alg) (lengths_of set) ++ blocks_table set
 
--- all tables of RamTst that a configuration decides
+-- all tables of RamTst: those of each set, the sets, the state table, and what leads to them
 unfoldable pub ram_numbers : List ParamSet → List ℕ
-ram_numbers sets = flat_map set_tables sets ++ flat_map set_row sets
+ram_numbers sets = flat_map set_tables sets ++ flat_map set_row sets ++ ram_table ++ length sets ∷ checksum 1 ram_table ∷ []
 
 -- a flash block: its first word, its copy's, its slices, and the words of the last
 abbrev pub flash_row : ℕ → FlashBlock → List ℕ
@@ -93,6 +94,6 @@ flash_table fls = flat_map (flash_row fls.atomic) fls.bgnd ++ flat_map (flash_ro
 abbrev pub fls_fields : FlsConfig → List ℕ
 fls_fields fls = fls.atomic ∷ fls.cells ∷ fls.interval_end ∷ length fls.bgnd ∷ length fls.fgnd ∷ []
 
--- all tables of FlsTst that a configuration decides
+-- all tables of FlsTst: its blocks, the state table, and what leads to them
 unfoldable pub fls_numbers : FlsConfig → List ℕ
-fls_numbers fls = flash_table fls ++ fls_fields fls ++ checksum 8 (fls_fields fls ++ flash_table fls) ∷ []
+fls_numbers fls = flash_table fls ++ fls_table ++ fls_fields fls ++ checksum 8 (fls_fields fls ++ flash_table fls) ∷ checksum 1 fls_table ∷ []

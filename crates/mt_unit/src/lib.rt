@@ -8,6 +8,7 @@ mod laws;
 mod numbers;
 mod plan;
 mod ram_cells;
+mod state_tables;
 mod tables;
 
 pub use cell::CellReply;

@@ -9,6 +9,7 @@ ghost use Rattle.mt_unit.specs.Tables.{flash_row, flash_table, fls_fields, fls_n
 
 use crate::crc::checksum;
 use crate::plan::push_plan;
+use crate::state_tables::{push_fls_table, push_ram_table};
 use crate::tables::{lengths_of, push_all, push_blocks, push_fields, push_plan_row, rest_in, slices_in};
 use mt_blocks::{FlashBlock, FlsConfig, ParamSet, RamConfig};
 use mt_port::Shape;
@@ -86,7 +87,8 @@ fn push_all_sets(alloc: Global, _shape: Shape, sets: &[ParamSet], out: &mut Vec<
     Ok(())
 }
 
-/// The numbers of RamTst's tables, in the order in which its C file has them: plans, blocks, and sets.
+/// The numbers of RamTst's tables, in the order in which its C file has them: plans, blocks, sets, and the
+/// state table.
 #[tactic(auto, unfolding(crate::specs::Tables::ram_numbers))]
 pub fn ram_numbers(alloc: Global, shape: Shape, config: &RamConfig) -> Result<Vec<u64>, AllocError>
     requires { IsAcceptedRam shape config.now }
@@ -95,6 +97,11 @@ pub fn ram_numbers(alloc: Global, shape: Shape, config: &RamConfig) -> Result<Ve
     let mut numbers = Vec::new(alloc);
     push_all_tables(alloc, shape, config.sets.as_slice(), &mut numbers)?;
     push_all_sets(alloc, shape, config.sets.as_slice(), &mut numbers)?;
+    let mut table = Vec::new(alloc);
+    push_ram_table(&mut table)?;
+    push_all(&mut numbers, table.as_slice())?;
+    numbers.push(config.sets.as_slice().len() as u64)?;
+    numbers.push(u64::from(checksum(1, table.as_slice())))?;
     Ok(numbers)
 }
 
@@ -142,7 +149,8 @@ fn push_fls_fields(fls: &FlsConfig, out: &mut Vec<u64>) -> Result<(), AllocError
     )
 }
 
-/// The numbers of FlsTst's tables, in the order in which its C file has them: blocks, and the module's fields.
+/// The numbers of FlsTst's tables, in the order in which its C file has them: blocks, the state table, and
+/// the module's fields.
 #[tactic(auto, unfolding(crate::specs::Tables::fls_numbers))]
 pub fn fls_numbers(alloc: Global, _shape: Shape, fls: &FlsConfig) -> Result<Vec<u64>, AllocError>
     requires { IsAcceptedFls _shape fls.now }
@@ -154,7 +162,11 @@ pub fn fls_numbers(alloc: Global, _shape: Shape, fls: &FlsConfig) -> Result<Vec<
     let sum = checksum(8, summed.as_slice());
     let mut numbers = Vec::new(alloc);
     push_flash_table(fls, &mut numbers)?;
+    let mut table = Vec::new(alloc);
+    push_fls_table(&mut table)?;
+    push_all(&mut numbers, table.as_slice())?;
     push_fls_fields(fls, &mut numbers)?;
     numbers.push(u64::from(sum))?;
+    numbers.push(u64::from(checksum(1, table.as_slice())))?;
     Ok(numbers)
 }
