@@ -4,5 +4,6 @@ pub mod FlsCells
 pub mod Laws
 pub mod Plans
 pub mod RamCells
+pub mod Reading
 pub mod StateTables
 pub mod Tables

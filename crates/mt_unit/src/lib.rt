@@ -8,8 +8,11 @@ mod laws;
 mod numbers;
 mod plan;
 mod ram_cells;
+mod reader;
+mod source;
 mod state_tables;
 mod tables;
+mod writer;
 
 pub use cell::CellReply;
 pub use crc::checksum;
@@ -18,4 +21,6 @@ pub use laws::{cells_are_the_tables, plans_are_the_steps, plans_make_the_sequenc
 pub use numbers::{fls_numbers, ram_numbers};
 pub use plan::{push_plan, read_byte, step_byte};
 pub use ram_cells::{RamColumn, RamRow, RamTableCell, ram_cell};
+pub use reader::numbers_in;
+pub use source::{Unwritten, fls_source, ram_source};
 pub use tables::{lengths_of, rest_in, slices_in, words_in};
