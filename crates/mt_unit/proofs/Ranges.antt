@@ -22,7 +22,7 @@ range_within : (low high a n : ℕ) → low ≤ a → a + n ≤ high → All (λ
 range_within low high a zero from to = All-nil (λ (k : ℕ). (low ≤ k) × (k < high))
 range_within low high a (suc n) from to =
     All-cons (λ (k : ℕ). (low ≤ k) × (k < high)) a (range_with_len (a + 1) n) (omega (arith, from, to), omega (arith, from, to))
-        (range_within low high (a + 1) n (omega (arith, from)) (omega (arith, to)))
+    (range_within low high (a + 1) n (omega (arith, from)) (omega (arith, to)))
 
 -- a set's lengths are those of slices
 pub lengths_within : (set : ParamSet) → All (λ (n : ℕ). (1 ≤ n) × (n ≤ 64)) (lengths_of set)

@@ -1,5 +1,5 @@
 -- The numbers of a control unit's tables, in the order in which its C files have them.
-use Rattle.std.specs.Prelude.{ℕ, ◌+◌, ◌-◌, ◌/◌, ◌%◌, ◌==◌, Bool, true, false, ◌||◌, List, [], ◌∷◌, ◌++◌, length, map, filter}
+use Rattle.std.specs.Prelude.{ℕ, ◌+◌, ◌-◌, ◌/◌, ◌%◌, ◌==◌, Bool, true, false, ◌||◌, List, [], ◌∷◌, ◌++◌, length, map, min, max, filter}
 use Rattle.std.specs.List.{flat_map, list_any, range_with_len}
 use Rattle.mt_plan.specs.declared.algorithm.Algorithm.{Algorithm}
 use Rattle.mt_plan.specs.declared.algorithm.Algorithm.TheVariants.{Checkerboard, March as Marches, WalkPath, Galpat, TransparentGalpat}
@@ -10,6 +10,7 @@ use Rattle.mt_blocks.specs.declared.config.FlashBlock.{FlashBlock}
 use Rattle.mt_blocks.specs.declared.config.FlsConfig.{FlsConfig}
 use Rattle.mt_blocks.specs.declared.config.ParamSet.{ParamSet}
 use Rattle.mt_blocks.specs.declared.span.Span.{Span}
+use Rattle.mt_plan.specs.Plan.{hold_of}
 use Rattle.mt_seq.specs.Sequence.{is_transparent}
 use Rattle.mt_unit.specs.Checksums.{checksum}
 use Rattle.mt_unit.specs.Plans.{plan_of}
@@ -97,3 +98,14 @@ fls_fields fls = fls.atomic ∷ fls.cells ∷ fls.interval_end ∷ length fls.bg
 -- all tables of FlsTst: its blocks, the state table, and what leads to them
 unfoldable pub fls_numbers : FlsConfig → List ℕ
 fls_numbers fls = flash_table fls ++ fls_table ++ fls_fields fls ++ checksum 8 (fls_fields fls ++ flash_table fls) ∷ checksum 1 fls_table ∷ []
+
+-- for how many accesses the longest slice of a block holds interrupts, and of a set
+abbrev pub lock_of : Algorithm → ℕ → Block → ℕ
+lock_of alg atomic b = hold_of alg b.policy (min (words_in b.span) atomic)
+
+abbrev pub greatest_from : ℕ → List ℕ → ℕ
+greatest_from most [] = most
+greatest_from most (x ∷ xs) = greatest_from (max most x) xs
+
+abbrev pub longest_lock : ParamSet → ℕ
+longest_lock set = greatest_from 0 (map (lock_of set.alg set.atomic) set.blocks)

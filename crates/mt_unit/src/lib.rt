@@ -4,6 +4,7 @@
 mod cell;
 mod crc;
 mod fls_cells;
+mod header;
 mod laws;
 mod numbers;
 mod plan;
@@ -17,6 +18,7 @@ mod writer;
 pub use cell::CellReply;
 pub use crc::checksum;
 pub use fls_cells::{FlsColumn, FlsRow, FlsTableCell, fls_cell};
+pub use header::{fls_header, longest_lock, ram_header};
 pub use laws::{cells_are_the_tables, plans_are_the_steps, plans_make_the_sequence};
 pub use numbers::{fls_numbers, ram_numbers};
 pub use plan::{push_plan, read_byte, step_byte};

@@ -10,7 +10,9 @@ ghost use Rattle.mt_unit.specs.Tables.{flash_row, flash_table, fls_fields, fls_n
 use crate::crc::checksum;
 use crate::plan::push_plan;
 use crate::state_tables::{push_fls_table, push_ram_table};
-use crate::tables::{lengths_of, push_all, push_blocks, push_fields, push_plan_row, rest_in, slices_in};
+use crate::tables::{
+    lengths_of, push_all, push_blocks, push_fields, push_plan_row, rest_in, slices_in,
+};
 use mt_blocks::{FlashBlock, FlsConfig, ParamSet, RamConfig};
 use mt_port::Shape;
 use std::alloc::{AllocError, Global};
@@ -43,7 +45,12 @@ fn push_plans(set: &ParamSet, lengths: &[u32], out: &mut Vec<u64>) -> Result<(),
 }
 
 /// Appends what the tables say of the plans of a set.
-fn push_plan_rows(alloc: Global, set: &ParamSet, lengths: &[u32], out: &mut Vec<u64>) -> Result<(), AllocError>
+fn push_plan_rows(
+    alloc: Global,
+    set: &ParamSet,
+    lengths: &[u32],
+    out: &mut Vec<u64>,
+) -> Result<(), AllocError>
     requires accepted { IsAccepted set.now.alg }
     requires lengths { All (λ (n : ℕ). (1 ≤ n) × (n ≤ 64)) lengths.now }
     ensures { OnOk result (out.new.items ≡ out.old.items ++ flat_map (plan_row set.now.alg) lengths.now) }
@@ -67,7 +74,12 @@ fn push_tables(alloc: Global, set: &ParamSet, out: &mut Vec<u64>) -> Result<(), 
     push_blocks(set, out)
 }
 
-fn push_all_tables(alloc: Global, _shape: Shape, sets: &[ParamSet], out: &mut Vec<u64>) -> Result<(), AllocError>
+fn push_all_tables(
+    alloc: Global,
+    _shape: Shape,
+    sets: &[ParamSet],
+    out: &mut Vec<u64>,
+) -> Result<(), AllocError>
     requires { All (IsAcceptedSet _shape) sets.now }
     ensures { OnOk result (out.new.items ≡ out.old.items ++ flat_map set_tables sets.now) }
 {
@@ -77,7 +89,12 @@ fn push_all_tables(alloc: Global, _shape: Shape, sets: &[ParamSet], out: &mut Ve
     Ok(())
 }
 
-fn push_all_sets(alloc: Global, _shape: Shape, sets: &[ParamSet], out: &mut Vec<u64>) -> Result<(), AllocError>
+fn push_all_sets(
+    alloc: Global,
+    _shape: Shape,
+    sets: &[ParamSet],
+    out: &mut Vec<u64>,
+) -> Result<(), AllocError>
     requires { All (IsAcceptedSet _shape) sets.now }
     ensures { OnOk result (out.new.items ≡ out.old.items ++ flat_map set_row sets.now) }
 {

@@ -22,7 +22,10 @@ fn is_digit(byte: u8) -> bool
 fn is_word_byte(byte: u8) -> bool
     ensures { result ≡ is_word_byte byte }
 {
-    is_digit(byte) || (b'A' <= byte && byte <= b'Z') || (b'a' <= byte && byte <= b'z') || byte == b'_'
+    is_digit(byte)
+        || (b'A' <= byte && byte <= b'Z')
+        || (b'a' <= byte && byte <= b'z')
+        || byte == b'_'
 }
 
 /// A number with one digit more.
@@ -42,7 +45,11 @@ fn grown(value: u64, byte: u8) -> Place
 fn fresh(byte: u8) -> Place
     ensures { result ≡ fresh byte }
 {
-    if is_word_byte(byte) { Place::Word } else { Place::Between }
+    if is_word_byte(byte) {
+        Place::Word
+    } else {
+        Place::Between
+    }
 }
 
 fn after_byte(place: Place, byte: u8) -> Place

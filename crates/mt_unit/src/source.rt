@@ -28,7 +28,8 @@ impl From<AllocError> for Unwritten {
     }
 }
 
-const MADE: &str = "/* Made by mt generate; RamTst_Cfg.h has the configuration. It is not to be edited. */\n";
+const MADE: &str =
+    "/* Made by mt generate; RamTst_Cfg.h has the configuration. It is not to be edited. */\n";
 
 /// The name of a table of a set, as in `RamTst_Plans_0`.
 fn say_name(out: &mut Writer<'_>, name: &str, set: u64) -> Result<(), AllocError> {
@@ -43,7 +44,13 @@ fn say_plan_name(out: &mut Writer<'_>, set: u64, n: u32) -> Result<(), AllocErro
 }
 
 /// The beginning of a table: its type, its name, and its size.
-fn begin(out: &mut Writer<'_>, kind: &str, name: &str, set: u64, size: usize) -> Result<(), AllocError> {
+fn begin(
+    out: &mut Writer<'_>,
+    kind: &str,
+    name: &str,
+    set: u64,
+    size: usize,
+) -> Result<(), AllocError> {
     out.say("static const ")?;
     out.say(kind)?;
     say_name(out, name, set)?;
@@ -87,7 +94,13 @@ fn say_plans(out: &mut Writer<'_>, set: &ParamSet, number: u64) -> Result<(), Al
             say_plan(out, set, number, *n)?;
         }
     }
-    begin(out, "MemTst_PlanType ", "RamTst_Plans_", number, lengths.len())?;
+    begin(
+        out,
+        "MemTst_PlanType ",
+        "RamTst_Plans_",
+        number,
+        lengths.len(),
+    )?;
     for n in lengths.as_slice() {
         say_plan_row(out, number, *n)?;
     }
@@ -146,7 +159,11 @@ fn say_ram(out: &mut Writer<'_>, _shape: Shape, sets: &[ParamSet]) -> Result<(),
         say_set(out, number as u64)?;
     }
     out.say("};\n\n")?;
-    say_cells(out, "static const RamTst_CellType RamTst_Table[RAMTST_SERVICES * RAMTST_STATES] = {\n", 18)?;
+    say_cells(
+        out,
+        "static const RamTst_CellType RamTst_Table[RAMTST_SERVICES * RAMTST_STATES] = {\n",
+        18,
+    )?;
     out.say("const RamTst_ConfigType RamTst_Config = {RamTst_Sets, ")?;
     out.take()?;
     out.say(", RamTst_Table, ")?;
@@ -202,7 +219,11 @@ fn say_fls(out: &mut Writer<'_>, fls: &FlsConfig) -> Result<(), AllocError> {
     out.say("#include \"FlsTst.h\"\n\n")?;
     say_flash(out, "FlsTst_Bgnd", bgnd)?;
     say_flash(out, "FlsTst_Fgnd", fgnd)?;
-    say_cells(out, "static const FlsTst_CellType FlsTst_Table[FLSTST_SERVICES * FLSTST_STATES] = {\n", 12)?;
+    say_cells(
+        out,
+        "static const FlsTst_CellType FlsTst_Table[FLSTST_SERVICES * FLSTST_STATES] = {\n",
+        12,
+    )?;
     out.say("const FlsTst_ConfigType FlsTst_Config = {")?;
     out.take_some(3)?;
     say_flash_field(out, "FlsTst_Bgnd", bgnd)?;

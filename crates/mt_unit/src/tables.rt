@@ -138,7 +138,8 @@ fn own_number(algorithm: &Algorithm) -> u64
 {
     match algorithm {
         Algorithm::TransparentGalpat => 1,
-        Algorithm::Checkerboard | Algorithm::March(_) | Algorithm::WalkPath | Algorithm::Galpat => 0,
+        Algorithm::Checkerboard | Algorithm::March(_) | Algorithm::WalkPath | Algorithm::Galpat =>
+            0,
     }
 }
 
@@ -152,7 +153,12 @@ fn policy_number(policy: Policy) -> u64
 }
 
 /// Appends what a table says of a plan: its steps, its cells, and the checksum over both.
-pub(crate) fn push_plan_row(alloc: Global, algorithm: &Algorithm, n: u32, out: &mut Vec<u64>) -> Result<(), AllocError>
+pub(crate) fn push_plan_row(
+    alloc: Global,
+    algorithm: &Algorithm,
+    n: u32,
+    out: &mut Vec<u64>,
+) -> Result<(), AllocError>
     requires accepted { IsAccepted algorithm.now }
     requires some { 1 ≤ n }
     requires small { n ≤ 64 }
@@ -162,7 +168,10 @@ pub(crate) fn push_plan_row(alloc: Global, algorithm: &Algorithm, n: u32, out: &
     push_plan(algorithm, n, &mut plan)?;
     let count = plan.len() as u64;
     plan.push(u64::from(n))?;
-    push_all(out, &[count, u64::from(n), u64::from(checksum(1, plan.as_slice()))])
+    push_all(
+        out,
+        &[count, u64::from(n), u64::from(checksum(1, plan.as_slice()))],
+    )
 }
 
 /// Appends the row of a block.

@@ -32,7 +32,8 @@ impl<'a> Writer<'a> {
     /// Writes a number that is a part of a name, or a size.
     pub fn name(&mut self, number: u64) -> Result<(), AllocError> {
         let mut buffer = Buffer::new();
-        self.text.extend_from_slice(buffer.format(number).as_bytes())
+        self.text
+            .extend_from_slice(buffer.format(number).as_bytes())
     }
 
     /// Writes the next number.
@@ -59,7 +60,11 @@ impl<'a> Writer<'a> {
         for index in 0..count {
             self.say(if index % ON_A_LINE == 0 { "    " } else { " " })?;
             self.take()?;
-            self.say(if index % ON_A_LINE == ON_A_LINE - 1 || index + 1 == count { ",\n" } else { "," })?;
+            self.say(if index % ON_A_LINE == ON_A_LINE - 1 || index + 1 == count {
+                ",\n"
+            } else {
+                ","
+            })?;
         }
         Ok(())
     }
