@@ -16,6 +16,7 @@ mod writing;
 pub use config::{Config, ConfigRefusal};
 pub use laws::{accepted_is_taken, fields_are_entries, refusal_is_least};
 pub use reading::read_config;
+pub use schema::{Kind, Otherwise, Part, Row, rows_of};
 pub use writing::write_config;
 
 #[cfg(test)]
