@@ -60,16 +60,19 @@ static boolean FlsTst_IsFree(uint8 service)
 
 /* ---- the tables as they were generated */
 
+/* How many bytes a field has in the checksum of its table. */
+#define FLSTST_FIELD (8u)
+
 static uint32 FlsTst_BlocksSum(uint32 before, const FlsTst_BlockType *blocks, uint32 number)
 {
     uint32 crc = before;
     uint32 at;
 
     for (at = 0u; at < number; at++) {
-        crc = MemTst_CrcNumber(crc, blocks[at].first, 4u);
-        crc = MemTst_CrcNumber(crc, blocks[at].copy, 4u);
-        crc = MemTst_CrcNumber(crc, blocks[at].slices, 4u);
-        crc = MemTst_CrcNumber(crc, blocks[at].rest, 1u);
+        crc = MemTst_CrcNumber(crc, blocks[at].first, FLSTST_FIELD);
+        crc = MemTst_CrcNumber(crc, blocks[at].copy, FLSTST_FIELD);
+        crc = MemTst_CrcNumber(crc, blocks[at].slices, FLSTST_FIELD);
+        crc = MemTst_CrcNumber(crc, blocks[at].rest, FLSTST_FIELD);
     }
     return crc;
 }
@@ -80,11 +83,11 @@ static boolean FlsTst_IsWhole(const FlsTst_ConfigType *config)
     uint32 cells = MEMTST_CRC_OF_NOTHING;
     uint32 at;
 
-    crc = MemTst_CrcNumber(crc, config->atomic, 1u);
-    crc = MemTst_CrcNumber(crc, config->cells, 4u);
-    crc = MemTst_CrcNumber(crc, config->interval_end, 2u);
-    crc = MemTst_CrcNumber(crc, config->number_of_bgnd, 1u);
-    crc = MemTst_CrcNumber(crc, config->number_of_fgnd, 1u);
+    crc = MemTst_CrcNumber(crc, config->atomic, FLSTST_FIELD);
+    crc = MemTst_CrcNumber(crc, config->cells, FLSTST_FIELD);
+    crc = MemTst_CrcNumber(crc, config->interval_end, FLSTST_FIELD);
+    crc = MemTst_CrcNumber(crc, config->number_of_bgnd, FLSTST_FIELD);
+    crc = MemTst_CrcNumber(crc, config->number_of_fgnd, FLSTST_FIELD);
     crc = FlsTst_BlocksSum(crc, config->bgnd, config->number_of_bgnd);
     crc = FlsTst_BlocksSum(crc, config->fgnd, config->number_of_fgnd);
     for (at = 0u; at < (FLSTST_SERVICES * FLSTST_STATES); at++) {

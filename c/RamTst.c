@@ -64,28 +64,31 @@ static boolean RamTst_IsFree(uint8 service)
 
 /* ---- the tables as they were generated */
 
+/* How many bytes a field has in the checksum of its table. */
+#define RAMTST_FIELD (8u)
+
+/* The checksum of a set's fields and blocks, each as eight bytes. */
 static uint32 RamTst_SetSum(const RamTst_AlgParamsType *set)
 {
-    const uint32 bytes = (uint32)sizeof(MemTst_WordType);
     uint32 crc = MEMTST_CRC_OF_NOTHING;
     uint32 at;
 
-    crc = MemTst_CrcNumber(crc, set->algorithm, 1u);
-    crc = MemTst_CrcNumber(crc, set->own, 1u);
-    crc = MemTst_CrcNumber(crc, set->background, bytes);
-    crc = MemTst_CrcNumber(crc, set->atomic, 1u);
-    crc = MemTst_CrcNumber(crc, set->cells, 4u);
-    crc = MemTst_CrcNumber(crc, set->retries, 1u);
-    crc = MemTst_CrcNumber(crc, set->full, 1u);
-    crc = MemTst_CrcNumber(crc, set->number_of_plans, 1u);
-    crc = MemTst_CrcNumber(crc, set->number_of_blocks, 1u);
+    crc = MemTst_CrcNumber(crc, set->algorithm, RAMTST_FIELD);
+    crc = MemTst_CrcNumber(crc, set->own, RAMTST_FIELD);
+    crc = MemTst_CrcNumber(crc, set->background, RAMTST_FIELD);
+    crc = MemTst_CrcNumber(crc, set->atomic, RAMTST_FIELD);
+    crc = MemTst_CrcNumber(crc, set->cells, RAMTST_FIELD);
+    crc = MemTst_CrcNumber(crc, set->retries, RAMTST_FIELD);
+    crc = MemTst_CrcNumber(crc, set->full, RAMTST_FIELD);
+    crc = MemTst_CrcNumber(crc, set->number_of_plans, RAMTST_FIELD);
+    crc = MemTst_CrcNumber(crc, set->number_of_blocks, RAMTST_FIELD);
     for (at = 0u; at < set->number_of_blocks; at++) {
         const RamTst_BlockType *block = &set->blocks[at];
-        crc = MemTst_CrcNumber(crc, block->first, 4u);
-        crc = MemTst_CrcNumber(crc, block->slices, 4u);
-        crc = MemTst_CrcNumber(crc, block->rest, 1u);
-        crc = MemTst_CrcNumber(crc, block->destructive, 1u);
-        crc = MemTst_CrcNumber(crc, block->fill, bytes);
+        crc = MemTst_CrcNumber(crc, block->first, RAMTST_FIELD);
+        crc = MemTst_CrcNumber(crc, block->slices, RAMTST_FIELD);
+        crc = MemTst_CrcNumber(crc, block->rest, RAMTST_FIELD);
+        crc = MemTst_CrcNumber(crc, block->destructive, RAMTST_FIELD);
+        crc = MemTst_CrcNumber(crc, block->fill, RAMTST_FIELD);
     }
     return crc;
 }

@@ -65,7 +65,7 @@ fn say_comment(out: &mut Writer<'_>, text: &str) -> Result<(), AllocError> {
         "/*\n * Made by mt generate from the configuration below. It is not to be edited.\n *\n",
     )?;
     for line in text.lines() {
-        out.say(" * ")?;
+        out.say(if line.is_empty() { " *" } else { " * " })?;
         out.say(line)?;
         out.say("\n")?;
     }
