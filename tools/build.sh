@@ -87,15 +87,31 @@ build() {
     note_built "$began" && rm -f "$log" && trap - EXIT
 }
 
-# Compiles and runs the program by `rt try`, whose status is the program's own where its last lines say that it ended.
+# Compiles and runs the program by `rt try`, in a folder of its own: its status is the program's where its last lines say
+# that it ended. `mt_desk` is told its file, the last of its words, with the whole path.
 try_program() {
     say 'mt: --unproved: nothing is proved of this run; the program is compiled anew, and stops where a check in it fails'
+    if [ "$name_of_program" = mt_desk ] && [ "$#" -gt 1 ]; then
+        words=$#
+        while [ "$words" -gt 1 ]; do
+            set -- "$@" "$1"
+            shift
+            words=$((words - 1))
+        done
+        case $1 in
+        /*) whole=$1 ;;
+        *) whole=$PWD/$1 ;;
+        esac
+        shift
+        set -- "$@" "$whole"
+    fi
     log=$(mktemp) || exit 1
     trap 'rm -f "$log"' EXIT
     cd "$crate" || exit 1
     rt try "$name_of_program" --seconds 3600 -- "$@" 2>"$log"
     status=$?
     if grep -q '^checked: ended status=' "$log"; then
+        grep -v '^checked: \|^run=' "$log" >&2
         exit "$status"
     fi
     cat "$log" >&2

@@ -34,6 +34,7 @@ pub fn destructive<'t>(
         {
             return Ok(Some(Finding {
                 path: placed.path,
+                place: placed.path,
                 target: Target::Value("policy"),
                 found: String::from_str(alloc, "policy is destructive")?,
                 help: String::from_str(
@@ -78,6 +79,7 @@ fn wrong_span<'t>(
     };
     Ok(Some(Finding {
         path: placed.path,
+        place: placed.path,
         target: Target::Value(key),
         found,
         help,
@@ -116,6 +118,7 @@ fn overlap_of<'t>(
             let (first, last) = (number(other.table, "first"), number(other.table, "last"));
             return Ok(Some(Finding {
                 path: placed.path,
+                place: placed.path,
                 target: Target::Value("first"),
                 found: format!(in alloc; "the block shares words with {name}, {first} to {last}")?,
                 help: String::from_str(
@@ -169,6 +172,7 @@ fn wrong_retries<'t>(
     }
     Ok(Some(Finding {
         path: placed.path,
+        place: placed.path,
         target: Target::Key("retries"),
         found: String::from_str(alloc, "retries stands in version 1")?,
         help: String::from_str(alloc, "leave retries out, or write version = 2")?,
@@ -209,6 +213,7 @@ fn wrong_copy<'t>(
     }
     Ok(Some(Finding {
         path: placed.path,
+        place: placed.path,
         target: Target::Value("copy"),
         found: format!(in alloc; "the copy is {copy} to {last}, and flash is {flash}")?,
         help: String::from_str(
@@ -259,6 +264,7 @@ pub fn copy<'t>(alloc: Global, tables: &[Placed<'t>]) -> Result<Option<Finding<'
             let (copy, end) = (number(placed.table, "copy"), copy_last(placed.table));
             return Ok(Some(Finding {
                 path: placed.path,
+                place: placed.path,
                 target: Target::Value("copy"),
                 found: format!(in alloc;
                     "the block is {first} to {last}, and its copy {copy} to {end}"

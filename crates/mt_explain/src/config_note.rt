@@ -109,7 +109,10 @@ fn no_document(alloc: Global, head: &[u8]) -> Result<Note, AllocError> {
         Err(error) => {
             let found = String::from_str(alloc, error.message())?;
             let mut note = Note::of(1, found, String::new(alloc));
-            note.mark = error.span().map(|span| mark_at(head, span.start));
+            if let Some(span) = error.span() {
+                note.mark = Some(mark_at(head, span.start));
+                note.length = span.end.saturating_sub(span.start).max(1);
+            }
             Ok(note)
         }
     }

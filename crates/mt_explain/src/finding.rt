@@ -6,10 +6,11 @@ use crate::path::{Path, Placed};
 use std::alloc::{AllocError, Global};
 use toml::Table;
 
-/// The key, or the table, that breaks a rule; what was found; and what would be taken.
+/// The table that breaks a rule; the table and the key of it at which it does; what was found; and what would be taken.
 #[derive(Drop)]
 pub struct Finding<'t> {
     pub path: Path,
+    pub place: Path,
     pub target: Target<'t>,
     pub found: String,
     pub help: String,
@@ -20,13 +21,14 @@ impl<'t> Finding<'t> {
     pub fn note(self, alloc: Global, file: &[&[u8]]) -> Result<Note, AllocError> {
         let Finding {
             path,
+            place,
             target,
             found,
             help,
         } = self;
         let name = path.name(alloc)?;
         let text = format!(in alloc; "in {name}, {found}")?;
-        match find_spot(file, path, target) {
+        match find_spot(file, place, target) {
             Some(spot) => Ok(Note {
                 mark: Some(spot.mark),
                 length: spot.length,
@@ -77,6 +79,7 @@ pub fn out_of_range<'t>(
     }
     Ok(Some(Finding {
         path: placed.path,
+        place: placed.path,
         target: Target::Value(key),
         found: format!(in alloc; "{key} is {value}")?,
         help: format!(in alloc; "write {low} to {high}")?,

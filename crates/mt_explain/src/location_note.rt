@@ -73,17 +73,21 @@ fn form(first: bool) -> &'static str {
 
 fn spelling(
     alloc: Global,
+    code: u8,
     located: Located<'_, '_>,
     tokens: &Tokens<'_>,
 ) -> Result<Note, AllocError> {
-    let (found, length) = match tokens.here {
-        Some(token) => {
-            let word = shown(alloc, token)?;
-            (format!(in alloc; "{word} may not stand here")?, token.len())
-        }
-        None => (String::from_str(alloc, "the line ends here")?, 1),
+    let help = String::from_str(alloc, form(located.first))?;
+    let Some(token) = tokens.here else {
+        return Ok(Note::of(1, String::from_str(alloc, "the line ends here")?, help));
     };
-    Ok(Note::of(length, found, String::from_str(alloc, form(located.first))?))
+    let word = shown(alloc, token)?;
+    let found = if code == 2 {
+        format!(in alloc; "found {word}")?
+    } else {
+        format!(in alloc; "{word} may not stand here")?
+    };
+    Ok(Note::of(token.len(), found, help))
 }
 
 // The index of the line before, if it is a miss.
@@ -162,6 +166,6 @@ pub fn location_note(
         }
         15 if tokens.before.len() == 2 => right_word(alloc, token),
         15 => wrong_index(alloc, token, located.before),
-        _ => spelling(alloc, located, &tokens),
+        _ => spelling(alloc, code, located, &tokens),
     }
 }

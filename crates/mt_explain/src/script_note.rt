@@ -28,12 +28,25 @@ fn misspelt(alloc: Global, tokens: &Tokens<'_>) -> Result<String, AllocError> {
         return String::from_str(alloc, "the line ends here");
     };
     let word = shown(alloc, token)?;
+    if token == b"=====".as_slice() {
+        return String::from_str(
+            alloc,
+            "a job has one line =====; a second one is for verify alone",
+        );
+    }
+    if token.starts_with(b"#") {
+        return String::from_str(alloc, "a comment stands on a line of its own");
+    }
     if token.contains(&b'\t') {
-        return format!(in alloc; "a tab is part of a word; spaces alone separate words");
+        return String::from_str(
+            alloc,
+            "a tab is part of a word; spaces alone separate words",
+        );
     }
     if token.ends_with(b"\r") {
-        return format!(in alloc;
-            "a carriage return is part of the word; a line feed alone ends a line"
+        return String::from_str(
+            alloc,
+            "a carriage return is part of the word; a line feed alone ends a line",
         );
     }
     format!(in alloc; "{word} may not stand here")
@@ -84,7 +97,7 @@ fn found(alloc: Global, code: u8, shape: Shape, tokens: &Tokens<'_>) -> Result<S
     let width = bits(shape.width);
     match code {
         1 => misspelt(alloc, tokens),
-        2 => format!(in alloc; "{word} is spelled otherwise"),
+        2 => format!(in alloc; "found {word}"),
         3 => format!(in alloc; "{word} is beyond the last address"),
         4 => format!(in alloc; "{word} has more than {width} bits"),
         5 => falls(alloc, token, tokens),
@@ -118,6 +131,7 @@ pub fn script_note(
     }
     let gap = Gap {
         front: line.front(),
+        at_end: tokens.here.is_none(),
         shape,
     };
     let found = found(alloc, code, shape, &tokens)?;

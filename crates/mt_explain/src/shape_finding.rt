@@ -28,6 +28,7 @@ fn unknown_in<'t>(alloc: Global, placed: Placed<'t>) -> Result<Option<Finding<'t
             let keys = keys_of(alloc, rows)?;
             return Ok(Some(Finding {
                 path: placed.path,
+                place: placed.path,
                 target: Target::Key(key.as_str()),
                 found: format!(in alloc; "{key} is no key")?,
                 help: suggestion(alloc, key.as_bytes(), keys.as_slice())?,
@@ -76,6 +77,7 @@ fn missing_in<'t>(alloc: Global, placed: Placed<'t>) -> Result<Option<Finding<'t
             let example = example(key);
             return Ok(Some(Finding {
                 path: placed.path,
+                place: placed.path,
                 target: Target::Header,
                 found: format!(in alloc; "{key} is missing")?,
                 help: format!(in alloc; "write {example}")?,
@@ -130,6 +132,7 @@ fn other_kind_in<'t>(alloc: Global, placed: Placed<'t>) -> Result<Option<Finding
             let wanted = wanted(row.kind);
             return Ok(Some(Finding {
                 path: placed.path,
+                place: placed.path,
                 target: Target::Value(key),
                 found: format!(in alloc; "the value of {key} is of the type {is}")?,
                 help: format!(in alloc; "write {wanted}")?,

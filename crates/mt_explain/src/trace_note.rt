@@ -77,6 +77,14 @@ fn expected_line(alloc: Global, job: &[u8], line: u32) -> Result<Option<Vec<u8>>
     if found { Ok(Some(text)) } else { Ok(None) }
 }
 
+// Whether a line is the expected one with a carriage return behind it.
+fn is_returned(given: Option<&[u8]>, expected: &[u8]) -> bool {
+    match given {
+        Some([front @ .., b'\r']) => front == expected,
+        _ => false,
+    }
+}
+
 /// A note on a line of the trace that is not the replay's.
 pub fn trace_note(alloc: Global, file: &File<'_, '_>, line: u32) -> Result<Note, AllocError> {
     let before = file
@@ -87,6 +95,12 @@ pub fn trace_note(alloc: Global, file: &File<'_, '_>, line: u32) -> Result<Note,
     let given = file.lines.get(number.saturating_sub(1)).copied();
     let expected = expected_line(alloc, file.job_bytes(), line)?;
     let found = match &expected {
+        Some(text) if is_returned(given, text) => {
+            String::from_str(
+                alloc,
+                "a carriage return ends the line; a line feed alone is to end it",
+            )?
+        }
         Some(text) => {
             let text = shown(alloc, text)?;
             format!(in alloc; "the replay writes {text} as line {line} of the trace")?

@@ -25,6 +25,7 @@ fn at_top(
 ) -> Result<Finding<'static>, AllocError> {
     Ok(Finding {
         path: Path::Top,
+        place: Path::Top,
         target: Target::Value(key),
         found,
         help: String::from_str(alloc, help)?,
@@ -77,6 +78,20 @@ fn is_word(digits: usize, word: &str) -> bool {
     word.len() == digits && word.bytes().all(|byte| byte.is_ascii_hexdigit())
 }
 
+// What is wrong with a text that is no word.
+fn misspelt_word(
+    alloc: Global,
+    digits: usize,
+    key: &str,
+    word: &str,
+) -> Result<String, AllocError> {
+    let count = word.len();
+    if count == digits {
+        return format!(in alloc; "{key} has other signs than hexadecimal digits");
+    }
+    format!(in alloc; "{key} has {count} digits")
+}
+
 fn wrong_word<'t>(
     alloc: Global,
     placed: Placed<'t>,
@@ -90,11 +105,11 @@ fn wrong_word<'t>(
     if is_word(digits, word) {
         return Ok(None);
     }
-    let count = word.len();
     Ok(Some(Finding {
         path: placed.path,
+        place: placed.path,
         target: Target::Value(key),
-        found: format!(in alloc; "{key} has {count} bytes, or others than hexadecimal digits")?,
+        found: misspelt_word(alloc, digits, key, word)?,
         help: format!(in alloc; "write {digits} hexadecimal digits")?,
     }))
 }
@@ -120,6 +135,16 @@ pub fn word<'t>(alloc: Global, tables: &[Placed<'t>]) -> Result<Option<Finding<'
     Ok(None)
 }
 
+// The table with an index in the array at a key.
+fn member(path: Path, key: &str, index: usize) -> Path {
+    match (path, key) {
+        (Path::Top, _) => Path::Set(index),
+        (Path::Set(set), _) => Path::Block { set, block: index },
+        (_, "bgnd") => Path::Bgnd(index),
+        _ => Path::Fgnd(index),
+    }
+}
+
 fn wrong_count<'t>(
     alloc: Global,
     placed: Placed<'t>,
@@ -131,9 +156,16 @@ fn wrong_count<'t>(
     if low <= count && count <= high {
         return Ok(None);
     }
+    // The first table too many has a header of its own.
+    let (place, target) = if count > high {
+        (member(placed.path, key, high), Target::Header)
+    } else {
+        (placed.path, Target::Value(key))
+    };
     Ok(Some(Finding {
         path: placed.path,
-        target: Target::Value(key),
+        place,
+        target,
         found: format!(in alloc; "{key} has {count} tables")?,
         help: format!(in alloc; "write {low} to {high}")?,
     }))
@@ -173,6 +205,7 @@ fn wrong_name<'t>(
     }
     Ok(Some(Finding {
         path: placed.path,
+        place: placed.path,
         target: Target::Value(key),
         found: format!(in alloc; "{key} has no name {name}")?,
         help: suggestion(alloc, name.as_bytes(), names)?,
@@ -187,6 +220,7 @@ fn idle_march<'t>(alloc: Global, placed: Placed<'t>) -> Result<Option<Finding<'t
     }
     Ok(Some(Finding {
         path: placed.path,
+        place: placed.path,
         target: Target::Key("march"),
         found: format!(in alloc; "march stands beside the algorithm {algorithm}")?,
         help: String::from_str(alloc, "leave the march out, or write algorithm = \"march\"")?,

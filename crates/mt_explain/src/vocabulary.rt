@@ -59,13 +59,14 @@ static WORDS: [&str; 47] = [
     "down",
 ];
 
-/// The words that are no one's neighbours: `and` and `or`, and what a request or a handler begins or ends with.
+/// Words of which none is near another one: the wirings, and the signs of handlers.
 static SIGNS: [&str; 5] = ["and", "or", "[", ";", "]"];
 
-/// A place of a line: what stands before it, in a job with this shape of the memory.
+/// A place of a line: what stands before it, whether the line ends there, and the shape of the memory.
 #[derive(Clone, Copy)]
 pub struct Gap<'a> {
     pub front: &'a [u8],
+    pub at_end: bool,
     pub shape: Shape,
 }
 
@@ -73,12 +74,17 @@ impl<'a> Gap<'a> {
     /// By which rule the reader refuses a word here, if it does.
     fn refusal(self, alloc: Global, word: &str) -> Result<Option<LineKind>, AllocError> {
         let mut text = Vec::from_slice(alloc, self.front)?;
+        // A word at the end stands apart from the one before it.
+        if self.at_end {
+            text.push(b' ')?;
+        }
+        let place = text.len();
         text.extend_from_slice(word.as_bytes())?;
         if text.len() > MOST_BYTES {
             return Ok(Some(LineKind::Spelling));
         }
         match read_line(&text, self.shape) {
-            Err(refusal) if refusal.place as usize <= self.front.len() + 1 => Ok(Some(
+            Err(refusal) if refusal.place as usize <= place.saturating_add(1) => Ok(Some(
                 refusal.kind,
             )),
             _ => Ok(None),
