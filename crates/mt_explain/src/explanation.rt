@@ -1,6 +1,6 @@
 //! The explanation of an input.
 
-ghost use Rattle.std.specs.Prelude.{◌≡◌, IfOk, map};
+ghost use Rattle.std.specs.Prelude.{◌≡◌, ◌≤◌, ◌+◌, length, IfOk, map};
 ghost use Rattle.mt_verify.specs.Lines.{lines};
 ghost use Rattle.mt_explain.specs.Inputs.{HasStatus};
 ghost use Rattle.mt_explain.specs.Explanations.{IsRowOf, IsPlaceOf};
@@ -58,7 +58,8 @@ fn march_row(note: &Note) -> Option<&'static Row> {
 
 // Where the status or the note says that the input is refused.
 fn place_of<'a>(file: &[&'a [u8]], head: usize, status: &Status, note: &Note) -> Option<Place<'a>>
-    requires { head ≡ head_len (map (λ line. line.now) file.now) }
+    requires head { head ≡ head_len (map (λ line. line.now) file.now) }
+    requires fits { head ≤ length file.now + 1 }
     ensures { IsPlaceOf (map (λ line. line.now) file.now) status.now result }
 {
     let (line, column) = match status {

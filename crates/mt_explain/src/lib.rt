@@ -32,3 +32,6 @@ pub use laws::scripts_stand_behind_heads;
 pub use report_text::{report, rule_name};
 pub use row::{Book, Row, Rule, row_of, rule_of};
 pub use table::rows;
+
+#[cfg(test)]
+mod tests;

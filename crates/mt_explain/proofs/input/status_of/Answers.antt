@@ -1,4 +1,4 @@
-use Rattle.std.proofs.Common.{◌≡◌, List, Some, ap, ◌∙◌}
+use Rattle.std.proofs.Common.{Some, ap, ◌∙◌}
 use Rattle.mt_replay.specs.Replay.{form_of}
 use Rattle.mt_explain.proofs.Statuses.{completed}
 use Rattle.mt_explain.proofs.input.status_of.Goals as goal

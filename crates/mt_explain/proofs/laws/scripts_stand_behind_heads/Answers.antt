@@ -1,4 +1,3 @@
-use Rattle.std.proofs.Common.{◌≡◌}
 use Rattle.mt_explain.proofs.Scripts.{scripts_stand}
 use Rattle.mt_explain.proofs.laws.scripts_stand_behind_heads.Goals as goal
 

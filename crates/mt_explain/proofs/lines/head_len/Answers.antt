@@ -1,4 +1,4 @@
-use Rattle.std.proofs.Common.{◌≡◌, ◌+◌, ℕ, not, sym, ap, ◌∙◌}
+use Rattle.std.proofs.Common.{◌+◌, ℕ, not, sym, ap, ◌∙◌}
 use Rattle.mt_explain.specs.Lines.{is_separator}
 use Rattle.mt_explain.proofs.LineLemmas.{prefix_len-map}
 use Rattle.mt_explain.proofs.lines.head_len.Goals as goal
