@@ -2,6 +2,7 @@
 #![tactic(auto)]
 
 mod explain;
+mod generate;
 mod new;
 mod rules;
 mod task;
@@ -16,6 +17,7 @@ use task::{Task, command, task_of};
 fn perform<R: Runtime + AllocGlobal>(rt: &R, task: Task<'_>) -> Result<ExitCode> {
     match task {
         Task::Explain { form, file } => explain::explain_file(rt, form, file),
+        Task::Generate { file, folder } => generate::generate(rt, file, folder),
         Task::New { file } => new::write_job(rt, file),
         Task::Rules => rules::list_rules(rt),
         Task::Nothing => Ok(ExitCode::from(2)),

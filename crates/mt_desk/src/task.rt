@@ -8,6 +8,7 @@ use std::alloc::{AllocError, Global};
 #[derive(Clone, Copy, Debug)]
 pub enum Task<'a> {
     Explain { form: &'a str, file: &'a str },
+    Generate { file: &'a str, folder: &'a str },
     New { file: &'a str },
     Rules,
     Nothing,
@@ -27,6 +28,15 @@ fn explain_command<'a>(alloc: Global) -> Result<Command<'a>, AllocError> {
         .arg(file)
 }
 
+fn generate_command<'a>(alloc: Global) -> Result<Command<'a>, AllocError> {
+    let file = Arg::new(alloc, "FILE").required(true);
+    let folder = Arg::new(alloc, "FOLDER").required(true);
+    Command::new(alloc, "generate")
+        .about("writes the tables of a job's configuration in C, into a folder")
+        .arg(file)?
+        .arg(folder)
+}
+
 fn new_command<'a>(alloc: Global) -> Result<Command<'a>, AllocError> {
     let file = Arg::new(alloc, "FILE").required(true);
     Command::new(alloc, "new")
@@ -44,6 +54,7 @@ pub fn command<'a>(alloc: Global) -> Result<Command<'a>, AllocError> {
         .about("what people ask for before and after a replay")
         .subcommand_required(true)
         .subcommand(explain_command(alloc)?)?
+        .subcommand(generate_command(alloc)?)?
         .subcommand(new_command(alloc)?)?
         .subcommand(rules_command(alloc))
 }
@@ -54,6 +65,10 @@ pub fn task_of<'a>(matches: &ArgMatches<'a>) -> Task<'a> {
         Some(("explain", of)) => Task::Explain {
             form: of.get_str("FORM").unwrap_or("run"),
             file: of.get_str("FILE").unwrap_or(""),
+        },
+        Some(("generate", of)) => Task::Generate {
+            file: of.get_str("FILE").unwrap_or(""),
+            folder: of.get_str("FOLDER").unwrap_or(""),
         },
         Some(("new", of)) => Task::New {
             file: of.get_str("FILE").unwrap_or(""),
