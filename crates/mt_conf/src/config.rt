@@ -6,7 +6,6 @@ ghost use Rattle.mt_conf.specs.Outcome.{number_of};
 use mt_blocks::{FlsConfig, RamConfig};
 use mt_march::MarchKind;
 use mt_port::Shape;
-use thiserror::Error;
 
 /// A configuration: the version of the text that says it, the memory's shape, the word that each of its cells holds first,
 /// and what the two modules test.
@@ -19,49 +18,31 @@ pub struct Config {
     pub fls_tst: FlsConfig,
 }
 
-/// The least rule that a text breaks. But for `NoMemory` the variants have the numbers 1 to 17.
-#[derive(Clone, Copy, Debug, PartialEq, Eq, Error)]
+/// The least rule that a text breaks; `mt_explain` has its sentence. But for `NoMemory` the variants have the numbers 1 to 17.
+#[derive(Clone, Copy, Debug, PartialEq, Eq)]
 pub enum ConfigRefusal {
-    #[error("no TOML document")]
     NotToml,
-    #[error("a key that is not known")]
     UnknownKey,
-    #[error("a key is missing")]
     MissingKey,
-    #[error("a value of the wrong type")]
     WrongType,
-    #[error("the version is not known")]
     Version,
-    #[error("the width is not known")]
     Width,
-    #[error("the size is out of range")]
     Size,
-    #[error("a word has other digits than the width asks for")]
     Word,
-    #[error("too few or too many sets or blocks")]
     Count,
-    #[error("the algorithm or the policy is not known")]
     Algorithm,
     /// The march of the set with this number is refused: its kind, and the place counted in bytes from 1.
-    #[error("a march is refused")]
     March {
         set: u32,
         kind: MarchKind,
         place: u32,
     },
-    #[error("a destructive block under transparent Galpat")]
     TransparentDestructive,
-    #[error("a block is out of range")]
     BlockRange,
-    #[error("blocks overlap")]
     Overlap,
-    #[error("the cells or the retries are out of range")]
     CellsRange,
-    #[error("the flash configuration is out of range")]
     FlashRange,
-    #[error("a flash block overlaps its copy")]
     CopyOverlap,
-    #[error("no memory")]
     NoMemory,
 }
 

@@ -19,6 +19,7 @@ pub use laws::{
     refusal_is_least, the_least_number_is_told,
 };
 pub use reading::read_config;
+pub use schema::{Kind, Otherwise, Part, Row, rows_of};
 pub use writing::write_config;
 
 #[cfg(test)]

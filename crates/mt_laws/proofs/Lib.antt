@@ -15,3 +15,8 @@ mod PlainMemories
 mod PassLines
 mod PassSteps
 mod Detects
+mod Calm
+mod RamCalm
+mod RamAlarms
+mod FlsCalm
+mod FlsAlarms

@@ -2,3 +2,4 @@ pub mod Latency
 pub mod Plain
 pub mod Memory
 pub mod Detection
+pub mod Alarms

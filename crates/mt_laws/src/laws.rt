@@ -1,5 +1,6 @@
 //! Laws of machines under scripts.
 
+ghost use Rattle.mt_laws.specs.Alarms.{FlsRaisesNoFalseAlarm, RamRaisesNoFalseAlarm};
 ghost use Rattle.mt_laws.specs.Detection.{PassesFindFaults};
 ghost use Rattle.mt_laws.specs.Latency.{RequestsAreServedInTime};
 ghost use Rattle.mt_laws.specs.Memory.{MemoryIsPlain};
@@ -14,7 +15,7 @@ use mt_ram::{
     accepted_sets_are_sound, running_calls_leave_setting, services_leave_setting,
     tests_leave_no_trace as ram_leaves_no_trace, waits_of_running_calls as ram_waits,
 };
-use mt_seq::attempts_on_sound_memory;
+use mt_seq::{attempts_on_sound_memory, comparisons_are_exact};
 
 /// Each request of an accepted line is served where its offset says. It waits 0, or less than the length of the attempt that
 /// it meets; an urgent one at most the words of the slice, where the attempt may be dropped.
@@ -46,6 +47,26 @@ pub fn memory_is_plain()
     running_calls_leave_setting();
     lines_keep_the_board();
     attempts_on_sound_memory();
+}
+
+/// On sound memory no block of RamTst is ever NOT_OK, and no entry of a line of RamTst reports a failure, whatever handlers do,
+/// whichever sets are selected and however tests are stopped, suspended or dropped.
+pub fn no_false_alarm_of_ram()
+    ensures { RamRaisesNoFalseAlarm }
+{
+    ram_leaves_no_trace();
+    services_leave_setting();
+    running_calls_leave_setting();
+    lines_keep_the_board();
+    attempts_on_sound_memory();
+}
+
+/// While each word of each flash block equals its copy, no interval and no foreground test of FlsTst is ever NOT_OK, no error details
+/// name a place, and no entry of a line of FlsTst reports a failure, whatever else the script does.
+pub fn no_false_alarm_of_fls()
+    ensures { FlsRaisesNoFalseAlarm }
+{
+    comparisons_are_exact();
 }
 
 /// Where a pass runs undisturbed over a fault that its algorithm catches, the block of the fault's slice is NOT_OK after it.

@@ -8,5 +8,6 @@
 mod laws;
 
 pub use laws::{
-    memory_is_plain, passes_find_faults, requests_are_served_in_time, tests_leave_no_trace,
+    memory_is_plain, no_false_alarm_of_fls, no_false_alarm_of_ram, passes_find_faults,
+    requests_are_served_in_time, tests_leave_no_trace,
 };

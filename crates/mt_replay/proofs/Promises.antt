@@ -16,6 +16,7 @@ use Rattle.mt_conf.specs.Laws.{AcceptedIsTaken}
 use Rattle.mt_gen.specs.Config.{job_config}
 use Rattle.mt_gen.specs.Script.{job_shape, script}
 use Rattle.mt_machine.specs.Machine.{Machine, Step, started, played}
+use Rattle.mt_laws.specs.Alarms.{AgreesWithCopies, FlsRaisesNoFalseAlarm, IsFlsCalm, IsRamCalm, OfEach, RamRaisesNoFalseAlarm}
 use Rattle.mt_laws.specs.Latency.{ServesInTime, RequestsAreServedInTime}
 use Rattle.mt_laws.specs.Plain.{TestsLeaveNoTrace}
 use Rattle.mt_laws.specs.Memory.{ArePlain, MemoryIsPlain}
@@ -32,7 +33,7 @@ use Rattle.mt_replay.specs.Soak.{soaked}
 use Rattle.mt_verify.specs.Lines.{first_other_line}
 use Rattle.mt_replay.specs.Locating.{◌>>=◌}
 use Rattle.mt_replay.specs.Verify.{Claim, claimed, claimed_from, last_claimed, claim_gives, compared, is_front, is_too_long, judged_by, line_said, replayed, script_limit, spelled, telling, uncut, verifying, verifying_by}
-use Rattle.mt_replay.specs.Promises.{IsJob, AreServedInTime, LeavesNoTrace, FindsFaults, lines_of}
+use Rattle.mt_replay.specs.Promises.{IsJob, AreServedInTime, LeavesNoTrace, FindsFaults, RaisesNoFalseAlarm, lines_of}
 use Rattle.mt_replay.proofs.Accepted.{small}
 use Rattle.mt_replay.proofs.Fixed.{config_accepted}
 use Rattle.mt_replay.proofs.Taken.{ReadingLaws, AreTaken, lines-taken, read_accepted}
@@ -201,4 +202,14 @@ finds_faults law taken reading defect = record {
       job_steps defect ending bytes c script is ∙ ap (λ (l : List Line). (played (started c defect) l).steps) split in
       subst (λ (l : List Step). IsNotOkBehind l (length (before ++ lines)) p.place.block) (sym same)
       (law c defect before lines behind (config_accepted taken is.text c is.accepted) (subst (All (IsAccepted c.shape)) split (lines_accepted reading c ending script)) fault p catch u);
+}
+
+pub no_false_alarm : RamRaisesNoFalseAlarm → FlsRaisesNoFalseAlarm → AcceptedIsTaken → (defect : Option Fault) → RaisesNoFalseAlarm defect
+no_false_alarm ram fls taken defect = record {
+  ram = λ ending bytes c script is sound. subst (OfEach IsRamCalm (lines_of c ending script)) (sym (job_steps defect ending bytes c script is))
+      (ram c defect (lines_of c ending script) (config_accepted taken is.text c is.accepted) sound.start sound.injects);
+  fls = λ ending bytes c script is equal.
+      let same = job_steps defect ending bytes c script is in
+      subst (OfEach IsFlsCalm (lines_of c ending script)) (sym same)
+      (fls c defect (lines_of c ending script) (config_accepted taken is.text c is.accepted) (subst (All (λ (s : Step). AgreesWithCopies c.fls_tst s.after.board.flash)) same equal));
 }

@@ -6,7 +6,8 @@ use Rattle.mt_ram.specs.State.{set_of}
 use Rattle.mt_text.specs.declared.line.Line.{Line}
 use Rattle.mt_conf.specs.declared.config.Config.{Config}
 use Rattle.mt_conf.specs.Outcome.{outcome as config_of}
-use Rattle.mt_machine.specs.Machine.{Machine, started, played, played_by}
+use Rattle.mt_machine.specs.Machine.{Machine, Step, started, played, played_by}
+use Rattle.mt_laws.specs.Alarms.{AgreesWithCopies, IsFlsCalm, IsRamCalm, OfEach}
 use Rattle.mt_laws.specs.Latency.{ServesInTime}
 use Rattle.mt_laws.specs.Plain.{InjectsNothing, plain_step}
 use Rattle.mt_laws.specs.Memory.{ArePlain}
@@ -63,6 +64,15 @@ pub record FindsFaults (defect : Option Fault) : Type 0 where
       → (fault : Fault) (p : Piece) → IsCaught (set_of (played (started c defect) before).after.modules.ram) p fault
       → IsUndisturbedPass fault (played (started c defect) before).after lines
       → IsNotOkBehind (outcome forms.Run ending defect bytes).steps (length (before ++ lines)) p.place.block
+
+-- No replay raises a false alarm: on sound memory RamTst reports no failure, and FlsTst none while each flash word equals its copy after every
+-- line.
+pub record RaisesNoFalseAlarm (defect : Option Fault) : Type 0 where
+  pub ram : (ending : Ending) (bytes : List ℕ) (c : Config) (script : Cut) → IsJob ending bytes c script → IsSoundReplay defect c (lines_of c ending script)
+      → OfEach IsRamCalm (lines_of c ending script) (outcome forms.Run ending defect bytes).steps
+  pub fls : (ending : Ending) (bytes : List ℕ) (c : Config) (script : Cut) → IsJob ending bytes c script
+      → All (λ (s : Step). AgreesWithCopies c.fls_tst s.after.board.flash) (outcome forms.Run ending defect bytes).steps
+      → OfEach IsFlsCalm (lines_of c ending script) (outcome forms.Run ending defect bytes).steps
 
 -- Whatever cuts of a set are asked for, no cut under the budget has fewer ticks than are told.
 abbrev pub TellsLeastTicks : Option Fault → Type 0

@@ -5,7 +5,7 @@ ghost use Rattle.mt_fault.specs.declared.fault.Fault.{Fault as MemoryFault};
 ghost use Rattle.mt_replay.specs.declared.form.Asked.{Asked};
 ghost use Rattle.mt_replay.specs.Changes.{change};
 ghost use Rattle.mt_replay.specs.Locate.{LocatingIsExact};
-ghost use Rattle.mt_replay.specs.Promises.{AreServedInTime, LeavesNoTrace, FindsFaults, TellsLeastTicks};
+ghost use Rattle.mt_replay.specs.Promises.{AreServedInTime, LeavesNoTrace, RaisesNoFalseAlarm, FindsFaults, TellsLeastTicks};
 ghost use Rattle.mt_replay.specs.Replay.{form_named, soak_of, soak_named, ask_of, ask_named, form_of, Replays, StatusCaused, LeavesBoard, IsLeftFree, Completes};
 
 use crate::form::{Ask, Asked, Form};
@@ -18,7 +18,8 @@ use mt_conf::accepted_is_taken;
 use mt_cut::longest_runs_are_least;
 use mt_gen::scripts_are_accepted;
 use mt_laws::{
-    memory_is_plain, passes_find_faults, requests_are_served_in_time, tests_leave_no_trace,
+    memory_is_plain, no_false_alarm_of_fls, no_false_alarm_of_ram, passes_find_faults,
+    requests_are_served_in_time, tests_leave_no_trace,
 };
 use mt_locate::{explaining_is_tested, faults_are_listed_once, faults_of_the_slice_are_listed};
 use mt_port::{Bench, Sink, Source};
@@ -108,6 +109,7 @@ fn form_of(words: &[String]) -> Option<Asked>
 fn promise()
     ensures latency { (defect : Option MemoryFault) → AreServedInTime defect }
     ensures transparent { (defect : Option MemoryFault) → LeavesNoTrace defect }
+    ensures calm { (defect : Option MemoryFault) → RaisesNoFalseAlarm defect }
     ensures detects { (defect : Option MemoryFault) → FindsFaults defect }
 {
     // Lines that are read are accepted, and so are generated ones and configurations.
@@ -118,6 +120,8 @@ fn promise()
     requests_are_served_in_time();
     tests_leave_no_trace();
     memory_is_plain();
+    no_false_alarm_of_ram();
+    no_false_alarm_of_fls();
     passes_find_faults();
 }
 
@@ -196,6 +200,10 @@ pub fn replay<S: Source, K: Sink, B: Bench>(
     // destructive block: the same answers, waits and results, and the same words after each line. Each answer of the
     // application is that of a plain memory on which its operations are done in script order, with such fills between them.
     ensures transparent { LeavesNoTrace (B.state board.old).defect }
+    // Whatever bytes the job has, where the board has no fault at the start and no line injects one, no block of RamTst is ever
+    // NOT_OK, and no trace line of RamTst reports a failure. While each flash word equals its copy after every line, FlsTst
+    // reports none.
+    ensures calm { RaisesNoFalseAlarm (B.state board.old).defect }
     // Whatever bytes the input has, `locate` lists a fault exactly where it lies inside the slice and explains what was missed
     // there, and each once.
     ensures exact { LocatingIsExact }

@@ -30,14 +30,14 @@ loop-lines-init g c =
 pub soak_line-requires-clause-line : goal.soak_line-requires-clause-line
 soak_line-requires-clause-line g c =
     let line = c.take.new.line in
-    let all = subst (λ (l : List Line). All (IsAccepted job_shape) l) c.loop-lines-test.ensures c.loop-lines.invariant.accepted in
+    let all = subst (λ (l : List Line). All (IsAccepted job_shape) l) c.loop-lines-test.ensures.next c.loop-lines.invariant.accepted in
     subst (λ (shape : Shape). IsAccepted shape line) (sym c.loop-lines.invariant.ready.shape) (All-head (IsAccepted job_shape) line c.take.new.self all)
 
 pub loop-lines-preserved : goal.loop-lines-preserved
 loop-lines-preserved g c =
     let before = c.loop-lines.invariant in
     let here = c.soak_line.ensures in
-    let is = c.loop-lines-test.ensures in
+    let is = c.loop-lines-test.ensures.next in
     let line = c.take.new.line in
     let all = subst (λ (l : List Line). All (IsAccepted job_shape) l) is before.accepted in
     let m : Machine = machine (g.B.Port.state c.loop-lines.board) c.loop-lines.modules in
@@ -58,4 +58,4 @@ loop-lines-preserved g c =
 pub returns-clause-sums : goal.returns-clause-sums
 returns-clause-sums g c =
     Soaking-all (machine (g.B.Port.state c.args.board.now) c.args.modules.now) (machine (g.B.Port.state c.loop-lines.board) c.loop-lines.modules) (script c.args.number) c.loop-lines.lines _ _ _
-    c.loop-lines.invariant.soaking c.loop-lines-test.ensures
+    c.loop-lines.invariant.soaking c.loop-lines-test.ensures.next

@@ -1,4 +1,4 @@
-use Rattle.mt_replay.proofs.Promises.{are_served_in_time, leaves_no_trace, finds_faults}
+use Rattle.mt_replay.proofs.Promises.{are_served_in_time, leaves_no_trace, finds_faults, no_false_alarm}
 use Rattle.mt_replay.proofs.Taken.{ReadingLaws}
 use Rattle.mt_replay.proofs.top.promise.Goals as goal
 
@@ -8,5 +8,6 @@ returns c =
     record {
       latency = are_served_in_time c.requests_are_served_in_time.ensures reading c.scripts_are_accepted.ensures.accepted;
       transparent = leaves_no_trace c.tests_leave_no_trace.ensures c.memory_is_plain.ensures c.accepted_is_taken.ensures;
+      calm = no_false_alarm c.no_false_alarm_of_ram.ensures c.no_false_alarm_of_fls.ensures c.accepted_is_taken.ensures;
       detects = finds_faults c.passes_find_faults.ensures c.accepted_is_taken.ensures reading;
     }

@@ -1,0 +1,18 @@
+use Rattle.std.proofs.Common.{ℕ, ◌+◌, ◌++◌, ◌∷◌, [], List, take, ap, sym, ◌∙◌}
+use Rattle.std.specs.List.{flat_map}
+use Rattle.std.proofs.lemmas.List.{flat_map_more}
+use Rattle.mt_blocks.specs.declared.config.ParamSet.{ParamSet}
+use Rattle.mt_unit.specs.Tables.{set_row}
+use Rattle.mt_unit.proofs.Checksums.{one_number}
+use Rattle.mt_unit.proofs.numbers.push_all_sets.Goals as goal
+
+pub loop-set-preserved : goal.loop-set-preserved
+loop-set-preserved c =
+    let sets : List ParamSet = c.args.sets.now in
+    let i : ℕ = c.loop-set.set-index in
+    let set : ParamSet = c.set-item.result in
+    c.in_ok-push_set.ensures
+    ∙ ap (λ (o : List ℕ). o ++ set_row set) c.loop-set.invariant
+    ∙ flat_map_more set_row c.args.out.now.items (take i sets) set
+    ∙ ap (λ (x : ParamSet). c.args.out.now.items ++ flat_map set_row (take i sets ++ x ∷ [])) c.set-item.is
+    ∙ ap (λ (l : List ParamSet). c.args.out.now.items ++ flat_map set_row l) (sym (one_number sets i set c.loop-set-test.true))

@@ -1,0 +1,9 @@
+pub mod Carrying
+pub mod Checksums
+pub mod FlsCells
+pub mod Laws
+pub mod Plans
+pub mod RamCells
+pub mod Reading
+pub mod StateTables
+pub mod Tables
