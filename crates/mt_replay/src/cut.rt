@@ -1,6 +1,6 @@
 //! The fewest ticks of a pass, as text.
 
-ghost use Rattle.std.specs.Prelude.{◌≡◌, ◌≤◌, ℕ, All, None, OnOk, OnErr, IfOk, slice_get, IfSome};
+ghost use Rattle.std.specs.Prelude.{◌≡◌, ◌≤◌, ℕ, All, None, OnOk, OnErr, IfOk, IsOk, slice_get, IfSome};
 ghost use Rattle.std.specs.Io.KnownBytes.{prepend_known, Appends};
 ghost use Rattle.mt_port.specs.Causes.{HasCause};
 ghost use Rattle.mt_port.specs.Streams.{AppendsFront};
@@ -150,9 +150,10 @@ fn copied(alloc: Global, set: &ParamSet) -> Result<ParamSet, AllocError>
     })
 }
 
-/// A copy of the set with this number; none where there is none.
+/// A copy of the set with this number; none where there is none, and then no memory is taken.
 pub fn chosen(alloc: Global, sets: &[ParamSet], number: u32) -> Result<Option<ParamSet>, AllocError>
-    ensures { IfOk result (λ set. set ≡ slice_get sets.now number) }
+    ensures set { IfOk result (λ set. set ≡ slice_get sets.now number) }
+    ensures none { slice_get sets.now number ≡ None → IsOk result }
 {
     match sets.get(number as usize) {
         Some(set) => Ok(Some(copied(alloc, set)?)),
