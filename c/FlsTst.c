@@ -13,7 +13,6 @@ static volatile uint8 FlsTst_State;
 static volatile uint8 FlsTst_Back;     /* the state in which the foreground test was taken */
 static volatile boolean FlsTst_Busy;   /* a running call is under way */
 static volatile boolean FlsTst_Mark;   /* an Abort or a Suspend was accepted in this event */
-static volatile boolean FlsTst_Begun;  /* the interval was dropped since the group began */
 static FlsTst_PlaceType FlsTst_Place;  /* the position */
 static boolean FlsTst_Failed;          /* whether the interval under way has failed */
 static FlsTst_TestResultBgndType FlsTst_Completed;
@@ -105,7 +104,6 @@ static void FlsTst_Drop(void)
     FlsTst_Place.block = 0u;
     FlsTst_Place.slice = 0u;
     FlsTst_Failed = FALSE;
-    FlsTst_Begun = TRUE;
 }
 
 /* Forgets results and details. */
@@ -137,8 +135,8 @@ void FlsTst_Init(const FlsTst_ConfigType *ConfigPtr)
     }
 }
 
-/* Takes a service that moves the module by the table alone. `drops`: it drops the interval. `marks`: it ends a tick. */
-static void FlsTst_Move(uint8 service, boolean drops, boolean marks)
+/* Takes a service that moves the module by the table alone. `marks`: it ends a tick. The interval is dropped by the next Init. */
+static void FlsTst_Move(uint8 service, boolean marks)
 {
     uint8 reply;
 
@@ -146,9 +144,6 @@ static void FlsTst_Move(uint8 service, boolean drops, boolean marks)
     reply = FlsTst_CellOf(service)->reply;
     if (reply == FLSTST_REPLY_TAKEN) {
         FlsTst_State = FlsTst_CellOf(service)->next;
-        if (drops != FALSE) {
-            FlsTst_Drop();
-        }
         if (marks != FALSE) {
             FlsTst_Mark = TRUE;
         }
@@ -160,23 +155,23 @@ static void FlsTst_Move(uint8 service, boolean drops, boolean marks)
 void FlsTst_DeInit(void)
 {
     if (FlsTst_IsFree(FLSTST_SERVICE_DEINIT) != FALSE) {
-        FlsTst_Move(FLSTST_SERVICE_DEINIT, TRUE, FALSE);
+        FlsTst_Move(FLSTST_SERVICE_DEINIT, FALSE);
     }
 }
 
 void FlsTst_Abort(void)
 {
-    FlsTst_Move(FLSTST_SERVICE_ABORT, TRUE, TRUE);
+    FlsTst_Move(FLSTST_SERVICE_ABORT, TRUE);
 }
 
 void FlsTst_Suspend(void)
 {
-    FlsTst_Move(FLSTST_SERVICE_SUSPEND, FALSE, TRUE);
+    FlsTst_Move(FLSTST_SERVICE_SUSPEND, TRUE);
 }
 
 void FlsTst_Resume(void)
 {
-    FlsTst_Move(FLSTST_SERVICE_RESUME, FALSE, FALSE);
+    FlsTst_Move(FLSTST_SERVICE_RESUME, FALSE);
 }
 
 FlsTst_StateType FlsTst_GetCurrentState(void)
@@ -300,10 +295,8 @@ static boolean FlsTst_CompareBgnd(FlsTst_PlaceType *place, boolean *failed)
         } else {
             more = TRUE;
         }
-        if (FlsTst_Begun == FALSE) {
-            FlsTst_Place = *place;
-            FlsTst_Failed = *failed;
-        }
+        FlsTst_Place = *place;
+        FlsTst_Failed = *failed;
     }
     FLSTST_EXIT();
     return more;
@@ -320,7 +313,6 @@ static void FlsTst_Group(void)
     FLSTST_ENTER();
     place = FlsTst_Place;
     failed = FlsTst_Failed;
-    FlsTst_Begun = FALSE;
     FLSTST_EXIT();
     while (more != FALSE) {
         const uint32 words = FlsTst_Words(&FlsTst_Taken->bgnd[place.block], place.slice);
