@@ -36,11 +36,11 @@ fn nearest<'a>(
 pub fn suggestion(alloc: Global, word: &[u8], names: &[&str]) -> Result<String, AllocError> {
     let text = String::from_utf8_lossy(alloc, word)?;
     match (nearest(alloc, text.as_str(), names)?, names) {
-        (Some(name), _) => format!(in alloc; "write {name}"),
-        (None, [name]) => format!(in alloc; "write {name}"),
+        (Some(name), _) => format!(in alloc; "write `{name}`"),
+        (None, [name]) => format!(in alloc; "write `{name}`"),
         _ => {
             let all = listed(alloc, names)?;
-            format!(in alloc; "write one of: {all}")
+            format!(in alloc; "write one of {all}")
         }
     }
 }

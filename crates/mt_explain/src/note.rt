@@ -50,14 +50,14 @@ pub fn shown(alloc: Global, bytes: &[u8]) -> Result<String, AllocError> {
     format!(in alloc; "`{text}`")
 }
 
-/// Names with commas between them.
+/// Names, as they are shown, with commas between them.
 pub fn listed(alloc: Global, names: &[&str]) -> Result<String, AllocError> {
     let mut text = String::new(alloc);
     for name in names {
         if !text.is_empty() {
             text.push_str(", ")?;
         }
-        text.push_str(name)?;
+        text.push_str(shown(alloc, name.as_bytes())?.as_str())?;
     }
     Ok(text)
 }

@@ -100,10 +100,11 @@ fn excerpt(
     let gutter = repeated(alloc, ' ', line.len())?;
     let space = repeated(alloc, ' ', shown.before)?;
     let carets = repeated(alloc, '^', shown.marked)?;
-    let text = shown.text.as_str().trim_end();
+    let text = format!(in alloc; "{line} | {}", shown.text.as_str())?;
+    let text = text.as_str().trim_end();
     let found = &explanation.found;
     format!(in alloc;
-        "{gutter}--> {file}:{number}:{column}\n{gutter} |\n{line} | {text}\n{gutter} | {space}{carets} {found}\n"
+        "{gutter}--> {file}:{number}:{column}\n{gutter} |\n{text}\n{gutter} | {space}{carets} {found}\n"
     )
 }
 

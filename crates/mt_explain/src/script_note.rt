@@ -22,34 +22,56 @@ impl<'a> Refused<'a> {
     }
 }
 
-// What is wrong with the spelling of a token.
-fn misspelt(alloc: Global, tokens: &Tokens<'_>) -> Result<String, AllocError> {
-    let Some(token) = tokens.here else {
-        return String::from_str(alloc, "the line ends here");
-    };
-    let word = shown(alloc, token)?;
+/// What was found, and what would be taken.
+#[derive(Clone, Copy)]
+struct Advice {
+    found: &'static str,
+    help: &'static str,
+}
+
+// What other formats allow, and this one does not.
+fn habit(token: &[u8]) -> Option<Advice> {
     if token == b"=====".as_slice() {
-        return String::from_str(
-            alloc,
-            "a job has one line =====; a second one is for verify alone",
-        );
+        return Some(Advice {
+            found: "a second separator is for verify alone",
+            help: "leave the line out, or ask for verify",
+        });
     }
     if token.starts_with(b"#") {
-        return String::from_str(alloc, "a comment stands on a line of its own");
+        return Some(Advice {
+            found: "a comment stands on a line of its own",
+            help: "write the comment on the line before",
+        });
     }
     if token.contains(&b'\t') {
-        return String::from_str(
-            alloc,
-            "a tab is part of a word; spaces alone separate words",
-        );
+        return Some(Advice {
+            found: "a tab is part of this word",
+            help: "write a space in place of each tab",
+        });
     }
     if token.ends_with(b"\r") {
-        return String::from_str(
-            alloc,
-            "a carriage return is part of the word; a line feed alone ends a line",
-        );
+        return Some(Advice {
+            found: "a carriage return is part of this word",
+            help: "write lines that end with a line feed alone",
+        });
     }
-    format!(in alloc; "{word} may not stand here")
+    None
+}
+
+// A note on a token that may not stand where it does, or on a line that ends too early.
+fn spelling(alloc: Global, gap: Gap<'_>, tokens: &Tokens<'_>) -> Result<Note, AllocError> {
+    let Some(token) = tokens.here else {
+        let found = String::from_str(alloc, "the line ends here")?;
+        return Ok(Note::of(1, found, gap.help(alloc, &[])?));
+    };
+    if let Some(advice) = habit(token) {
+        let found = String::from_str(alloc, advice.found)?;
+        let help = String::from_str(alloc, advice.help)?;
+        return Ok(Note::of(token.len(), found, help));
+    }
+    let word = shown(alloc, token)?;
+    let found = format!(in alloc; "{word} may not stand here")?;
+    Ok(Note::of(token.len(), found, gap.help(alloc, token)?))
 }
 
 // The offset of the request before.
@@ -96,7 +118,6 @@ fn found(alloc: Global, code: u8, shape: Shape, tokens: &Tokens<'_>) -> Result<S
     let word = shown(alloc, token)?;
     let width = bits(shape.width);
     match code {
-        1 => misspelt(alloc, tokens),
         2 => format!(in alloc; "found {word}"),
         3 => format!(in alloc; "{word} is beyond the last address"),
         4 => format!(in alloc; "{word} has more than {width} bits"),
@@ -134,6 +155,9 @@ pub fn script_note(
         at_end: tokens.here.is_none(),
         shape,
     };
+    if code == 1 {
+        return spelling(alloc, gap, &tokens);
+    }
     let found = found(alloc, code, shape, &tokens)?;
     let help = help(alloc, code, gap, token)?;
     Ok(Note::of(token.len(), found, help))

@@ -89,7 +89,7 @@ fn misspelt_word(
     if count == digits {
         return format!(in alloc; "{key} has other signs than hexadecimal digits");
     }
-    format!(in alloc; "{key} has {count} digits")
+    format!(in alloc; "the length of {key} is {count}")
 }
 
 fn wrong_word<'t>(

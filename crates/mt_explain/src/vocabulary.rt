@@ -162,22 +162,30 @@ impl<'a> Gap<'a> {
                 names.push(*sign)?;
             }
         }
-        if self.takes(alloc, "@4294967295")? {
-            names.push("@N or !N, a request")?;
-        }
         Ok(names)
+    }
+
+    // What may stand here of words and signs, and whether a request may.
+    fn choice(self, alloc: Global, word: &[u8]) -> Result<String, AllocError> {
+        let names = self.names(alloc)?;
+        let request = self.takes(alloc, "@4294967295")?;
+        match (names.as_slice(), request) {
+            ([], false) => String::from_str(alloc, "nothing more may stand on this line"),
+            ([], true) => String::from_str(alloc, "write a request, as `@5` or `!5`"),
+            (names, false) => suggestion(alloc, word, names),
+            (names, true) => {
+                let text = suggestion(alloc, word, names)?;
+                format!(in alloc; "{text}, or a request, as `@5` or `!5`")
+            }
+        }
     }
 
     /// What may stand here in place of a token.
     pub fn help(self, alloc: Global, word: &[u8]) -> Result<String, AllocError> {
-        if self.misspells(alloc, "x")? {
-            let value = self.value(alloc)?;
-            return format!(in alloc; "write {value}");
+        if !self.misspells(alloc, "x")? {
+            return self.choice(alloc, word);
         }
-        let names = self.names(alloc)?;
-        if names.is_empty() {
-            return String::from_str(alloc, "nothing more may stand on this line");
-        }
-        suggestion(alloc, word, names.as_slice())
+        let value = self.value(alloc)?;
+        format!(in alloc; "write {value}")
     }
 }
