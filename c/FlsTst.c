@@ -16,11 +16,8 @@ static volatile boolean FlsTst_Mark;   /* an Abort or a Suspend was accepted in 
 static FlsTst_PlaceType FlsTst_Place;  /* the position */
 static boolean FlsTst_Failed;          /* whether the interval under way has failed */
 static FlsTst_TestResultBgndType FlsTst_Completed;
-static volatile uint8 FlsTst_Fgnd;
+static volatile uint8 FlsTst_FgndResult;
 static FlsTst_ErrorDetailsType FlsTst_Details;
-
-/* What bars no slice of a foreground test. */
-static const volatile boolean FlsTst_Never = FALSE;
 
 /* ---- the state table */
 
@@ -50,11 +47,12 @@ static boolean FlsTst_Looks(uint8 service)
 /* Reports a service that may not preempt a running call. TRUE if none is under way. */
 static boolean FlsTst_IsFree(uint8 service)
 {
-    if (FlsTst_Busy != FALSE) {
+    const boolean free = (FlsTst_Busy == FALSE) ? TRUE : FALSE;
+
+    if (free == FALSE) {
         FLSTST_DET(service, FLSTST_E_BUSY);
-        return FALSE;
     }
-    return TRUE;
+    return free;
 }
 
 /* ---- the tables as they were generated */
@@ -111,7 +109,7 @@ static void FlsTst_Forget(void)
 {
     FlsTst_Completed.id = 0u;
     FlsTst_Completed.result = FLSTST_RESULT_NOT_TESTED;
-    FlsTst_Fgnd = (uint8)FLSTST_RESULT_NOT_TESTED;
+    FlsTst_FgndResult = (uint8)FLSTST_RESULT_NOT_TESTED;
     FlsTst_Details.kind = FLSTST_NO_ERROR;
     FlsTst_Details.block = 0u;
     FlsTst_Details.word = 0u;
@@ -198,7 +196,7 @@ FlsTst_TestResultFgndType FlsTst_GetTestResultFgnd(void)
     FlsTst_TestResultFgndType result = FLSTST_RESULT_NOT_TESTED;
 
     if (FlsTst_Looks(FLSTST_SERVICE_GET_TEST_RESULT_FGND) != FALSE) {
-        result = (FlsTst_TestResultFgndType)FlsTst_Fgnd;
+        result = (FlsTst_TestResultFgndType)FlsTst_FgndResult;
     }
     return result;
 }
@@ -362,6 +360,7 @@ void FlsTst_MainFunction(void)
 /* Compares a foreground block, whole. */
 static void FlsTst_CompareFgnd(uint32 number)
 {
+    static const volatile boolean never = FALSE; /* what bars no slice */
     const FlsTst_BlockType *block = &FlsTst_Taken->fgnd[number];
     boolean failed = FALSE;
     uint32 slice;
@@ -370,7 +369,7 @@ static void FlsTst_CompareFgnd(uint32 number)
         const uint32 offset = slice * FlsTst_Taken->atomic;
         uint32 where = 0u;
         const uint32 verdict = MemTst_Compare(
-            block->first + offset, block->copy + offset, FlsTst_Words(block, slice), &FlsTst_Never, &where);
+            block->first + offset, block->copy + offset, FlsTst_Words(block, slice), &never, &where);
 
         FLSTST_ENTER();
         if (verdict != MEMTST_PASS) {
@@ -378,7 +377,7 @@ static void FlsTst_CompareFgnd(uint32 number)
             FlsTst_Keep(FLSTST_ERROR_FGND, number, where);
         }
         if ((slice + 1u) == block->slices) {
-            FlsTst_Fgnd = (uint8)((failed != FALSE) ? FLSTST_RESULT_NOT_OK : FLSTST_RESULT_OK);
+            FlsTst_FgndResult = (uint8)((failed != FALSE) ? FLSTST_RESULT_NOT_OK : FLSTST_RESULT_OK);
         }
         FLSTST_EXIT();
     }

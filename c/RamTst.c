@@ -19,9 +19,6 @@ static uint32 RamTst_Selected;
 static uint32 RamTst_Cells;
 static volatile uint8 RamTst_Results[RAMTST_MOST_BLOCKS];
 
-/* What bars no slice of a full or a partial test. */
-static const volatile boolean RamTst_Never = FALSE;
-
 static const RamTst_AlgParamsType *RamTst_Set(void)
 {
     return &RamTst_Taken->sets[RamTst_Selected];
@@ -55,11 +52,12 @@ static boolean RamTst_Looks(uint8 service)
 /* Reports a service that may not preempt a running call. TRUE if none is under way. */
 static boolean RamTst_IsFree(uint8 service)
 {
-    if (RamTst_Busy != FALSE) {
+    const boolean free = (RamTst_Busy == FALSE) ? TRUE : FALSE;
+
+    if (free == FALSE) {
         RAMTST_DET(service, RAMTST_E_BUSY);
-        return FALSE;
     }
-    return TRUE;
+    return free;
 }
 
 /* ---- the tables as they were generated */
@@ -410,7 +408,8 @@ static void RamTst_Describe(const RamTst_TestType *test, MemTst_SliceType *slice
  */
 static boolean RamTst_TestSlice(RamTst_TestType *test, boolean in_pass, boolean *ends_block)
 {
-    const volatile boolean *barred = (in_pass != FALSE) ? &RamTst_Mark : &RamTst_Never;
+    static const volatile boolean never = FALSE; /* what bars no slice of a full or a partial test */
+    const volatile boolean *barred = (in_pass != FALSE) ? &RamTst_Mark : &never;
     MemTst_SliceType slice;
     uint32 drops = 0u;
     uint32 verdict;
