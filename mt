@@ -32,10 +32,10 @@ refuse_words() {
     exit 2
 }
 
-# Says in words why a form refused a file, where it ended with this number.
+# Says in words why a form refused a file, where it ended with this number, and the file can be read once more.
 explain_refusal() {
     case $1 in
-    3 | 4 | 8) ;;
+    3 | 4 | 8) [ -f "$2" ] || return 0 ;;
     *) return 0 ;;
     esac
     file=$2

@@ -62,7 +62,7 @@ HELP
     cat <<'HELP'
 
 Where a form refuses a FILE (3, 4, 8), the reason follows in words on standard error.
-The first run proves and builds the program, which takes some 20 minutes on four processors.
+The first run proves and builds the program, which takes some 18 minutes on four processors.
 HELP
 }
 
