@@ -13,15 +13,11 @@ static volatile uint8 FlsTst_State;
 static volatile uint8 FlsTst_Back;     /* the state in which the foreground test was taken */
 static volatile boolean FlsTst_Busy;   /* a running call is under way */
 static volatile boolean FlsTst_Mark;   /* an Abort or a Suspend was accepted in this event */
-static volatile boolean FlsTst_Begun;  /* the interval was dropped since the group began */
 static FlsTst_PlaceType FlsTst_Place;  /* the position */
 static boolean FlsTst_Failed;          /* whether the interval under way has failed */
 static FlsTst_TestResultBgndType FlsTst_Completed;
-static volatile uint8 FlsTst_Fgnd;
+static volatile uint8 FlsTst_FgndResult;
 static FlsTst_ErrorDetailsType FlsTst_Details;
-
-/* What bars no slice of a foreground test. */
-static const volatile boolean FlsTst_Never = FALSE;
 
 /* ---- the state table */
 
@@ -51,11 +47,12 @@ static boolean FlsTst_Looks(uint8 service)
 /* Reports a service that may not preempt a running call. TRUE if none is under way. */
 static boolean FlsTst_IsFree(uint8 service)
 {
-    if (FlsTst_Busy != FALSE) {
+    const boolean free = (FlsTst_Busy == FALSE) ? TRUE : FALSE;
+
+    if (free == FALSE) {
         FLSTST_DET(service, FLSTST_E_BUSY);
-        return FALSE;
     }
-    return TRUE;
+    return free;
 }
 
 /* ---- the tables as they were generated */
@@ -105,7 +102,6 @@ static void FlsTst_Drop(void)
     FlsTst_Place.block = 0u;
     FlsTst_Place.slice = 0u;
     FlsTst_Failed = FALSE;
-    FlsTst_Begun = TRUE;
 }
 
 /* Forgets results and details. */
@@ -113,7 +109,7 @@ static void FlsTst_Forget(void)
 {
     FlsTst_Completed.id = 0u;
     FlsTst_Completed.result = FLSTST_RESULT_NOT_TESTED;
-    FlsTst_Fgnd = (uint8)FLSTST_RESULT_NOT_TESTED;
+    FlsTst_FgndResult = (uint8)FLSTST_RESULT_NOT_TESTED;
     FlsTst_Details.kind = FLSTST_NO_ERROR;
     FlsTst_Details.block = 0u;
     FlsTst_Details.word = 0u;
@@ -137,8 +133,8 @@ void FlsTst_Init(const FlsTst_ConfigType *ConfigPtr)
     }
 }
 
-/* Takes a service that moves the module by the table alone. `drops`: it drops the interval. `marks`: it ends a tick. */
-static void FlsTst_Move(uint8 service, boolean drops, boolean marks)
+/* Takes a service that moves the module by the table alone. `marks`: it ends a tick. The interval is dropped by the next Init. */
+static void FlsTst_Move(uint8 service, boolean marks)
 {
     uint8 reply;
 
@@ -146,9 +142,6 @@ static void FlsTst_Move(uint8 service, boolean drops, boolean marks)
     reply = FlsTst_CellOf(service)->reply;
     if (reply == FLSTST_REPLY_TAKEN) {
         FlsTst_State = FlsTst_CellOf(service)->next;
-        if (drops != FALSE) {
-            FlsTst_Drop();
-        }
         if (marks != FALSE) {
             FlsTst_Mark = TRUE;
         }
@@ -160,23 +153,23 @@ static void FlsTst_Move(uint8 service, boolean drops, boolean marks)
 void FlsTst_DeInit(void)
 {
     if (FlsTst_IsFree(FLSTST_SERVICE_DEINIT) != FALSE) {
-        FlsTst_Move(FLSTST_SERVICE_DEINIT, TRUE, FALSE);
+        FlsTst_Move(FLSTST_SERVICE_DEINIT, FALSE);
     }
 }
 
 void FlsTst_Abort(void)
 {
-    FlsTst_Move(FLSTST_SERVICE_ABORT, TRUE, TRUE);
+    FlsTst_Move(FLSTST_SERVICE_ABORT, TRUE);
 }
 
 void FlsTst_Suspend(void)
 {
-    FlsTst_Move(FLSTST_SERVICE_SUSPEND, FALSE, TRUE);
+    FlsTst_Move(FLSTST_SERVICE_SUSPEND, TRUE);
 }
 
 void FlsTst_Resume(void)
 {
-    FlsTst_Move(FLSTST_SERVICE_RESUME, FALSE, FALSE);
+    FlsTst_Move(FLSTST_SERVICE_RESUME, FALSE);
 }
 
 FlsTst_StateType FlsTst_GetCurrentState(void)
@@ -203,7 +196,7 @@ FlsTst_TestResultFgndType FlsTst_GetTestResultFgnd(void)
     FlsTst_TestResultFgndType result = FLSTST_RESULT_NOT_TESTED;
 
     if (FlsTst_Looks(FLSTST_SERVICE_GET_TEST_RESULT_FGND) != FALSE) {
-        result = (FlsTst_TestResultFgndType)FlsTst_Fgnd;
+        result = (FlsTst_TestResultFgndType)FlsTst_FgndResult;
     }
     return result;
 }
@@ -300,10 +293,8 @@ static boolean FlsTst_CompareBgnd(FlsTst_PlaceType *place, boolean *failed)
         } else {
             more = TRUE;
         }
-        if (FlsTst_Begun == FALSE) {
-            FlsTst_Place = *place;
-            FlsTst_Failed = *failed;
-        }
+        FlsTst_Place = *place;
+        FlsTst_Failed = *failed;
     }
     FLSTST_EXIT();
     return more;
@@ -320,7 +311,6 @@ static void FlsTst_Group(void)
     FLSTST_ENTER();
     place = FlsTst_Place;
     failed = FlsTst_Failed;
-    FlsTst_Begun = FALSE;
     FLSTST_EXIT();
     while (more != FALSE) {
         const uint32 words = FlsTst_Words(&FlsTst_Taken->bgnd[place.block], place.slice);
@@ -370,6 +360,7 @@ void FlsTst_MainFunction(void)
 /* Compares a foreground block, whole. */
 static void FlsTst_CompareFgnd(uint32 number)
 {
+    static const volatile boolean never = FALSE; /* what bars no slice */
     const FlsTst_BlockType *block = &FlsTst_Taken->fgnd[number];
     boolean failed = FALSE;
     uint32 slice;
@@ -378,7 +369,7 @@ static void FlsTst_CompareFgnd(uint32 number)
         const uint32 offset = slice * FlsTst_Taken->atomic;
         uint32 where = 0u;
         const uint32 verdict = MemTst_Compare(
-            block->first + offset, block->copy + offset, FlsTst_Words(block, slice), &FlsTst_Never, &where);
+            block->first + offset, block->copy + offset, FlsTst_Words(block, slice), &never, &where);
 
         FLSTST_ENTER();
         if (verdict != MEMTST_PASS) {
@@ -386,7 +377,7 @@ static void FlsTst_CompareFgnd(uint32 number)
             FlsTst_Keep(FLSTST_ERROR_FGND, number, where);
         }
         if ((slice + 1u) == block->slices) {
-            FlsTst_Fgnd = (uint8)((failed != FALSE) ? FLSTST_RESULT_NOT_OK : FLSTST_RESULT_OK);
+            FlsTst_FgndResult = (uint8)((failed != FALSE) ? FLSTST_RESULT_NOT_OK : FLSTST_RESULT_OK);
         }
         FLSTST_EXIT();
     }

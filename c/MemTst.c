@@ -91,7 +91,7 @@ static uint32 MemTst_Attempt(const MemTst_SliceType *slice)
     if ((slice->destructive != FALSE) || (MemTst_Save(slice) == FALSE)) {
         verdict = MemTst_CarryOut(slice);
         MemTst_Leave(slice);
-        if ((verdict == MEMTST_PASS) && ((MemTst_Reached - slice->plan->steps) != (int32_t)slice->plan->count)) {
+        if ((verdict == MEMTST_PASS) && (MemTst_Reached != &slice->plan->steps[slice->plan->count])) {
             verdict = MEMTST_FAIL;
         }
     }

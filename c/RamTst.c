@@ -13,14 +13,11 @@ static const RamTst_ConfigType *RamTst_Taken;
 static volatile uint8 RamTst_State;
 static volatile boolean RamTst_Busy;   /* a running call is under way */
 static volatile boolean RamTst_Mark;   /* a Stop or a Suspend was accepted in this event */
-static volatile boolean RamTst_Begun;  /* the pass was stopped or begun anew since the group began */
+static volatile boolean RamTst_Begun;  /* the pass was stopped since the group began */
 static RamTst_TestType RamTst_Pass;    /* the position, and what is kept for the pass */
 static uint32 RamTst_Selected;
 static uint32 RamTst_Cells;
 static volatile uint8 RamTst_Results[RAMTST_MOST_BLOCKS];
-
-/* What bars no slice of a full or a partial test. */
-static const volatile boolean RamTst_Never = FALSE;
 
 static const RamTst_AlgParamsType *RamTst_Set(void)
 {
@@ -55,11 +52,12 @@ static boolean RamTst_Looks(uint8 service)
 /* Reports a service that may not preempt a running call. TRUE if none is under way. */
 static boolean RamTst_IsFree(uint8 service)
 {
-    if (RamTst_Busy != FALSE) {
+    const boolean free = (RamTst_Busy == FALSE) ? TRUE : FALSE;
+
+    if (free == FALSE) {
         RAMTST_DET(service, RAMTST_E_BUSY);
-        return FALSE;
     }
-    return TRUE;
+    return free;
 }
 
 /* ---- the tables as they were generated */
@@ -169,7 +167,10 @@ void RamTst_Init(const RamTst_ConfigType *ConfigPtr)
     }
 }
 
-/* Takes a service that moves the module by the table alone. `drops`: it drops the pass. `marks`: it ends a tick. */
+/*
+ * Takes a service that moves the module by the table alone. `drops`: it drops the pass. `marks`: it ends a tick. Init and Stop drop
+ * the pass, so that Allow and DeInit, which come after or before them, need not.
+ */
 static void RamTst_Move(uint8 service, boolean drops, boolean marks)
 {
     uint8 reply;
@@ -192,7 +193,7 @@ static void RamTst_Move(uint8 service, boolean drops, boolean marks)
 void RamTst_DeInit(void)
 {
     if (RamTst_IsFree(RAMTST_SERVICE_DEINIT) != FALSE) {
-        RamTst_Move(RAMTST_SERVICE_DEINIT, TRUE, FALSE);
+        RamTst_Move(RAMTST_SERVICE_DEINIT, FALSE, FALSE);
     }
 }
 
@@ -203,7 +204,7 @@ void RamTst_Stop(void)
 
 void RamTst_Allow(void)
 {
-    RamTst_Move(RAMTST_SERVICE_ALLOW, TRUE, FALSE);
+    RamTst_Move(RAMTST_SERVICE_ALLOW, FALSE, FALSE);
 }
 
 void RamTst_Suspend(void)
@@ -407,7 +408,8 @@ static void RamTst_Describe(const RamTst_TestType *test, MemTst_SliceType *slice
  */
 static boolean RamTst_TestSlice(RamTst_TestType *test, boolean in_pass, boolean *ends_block)
 {
-    const volatile boolean *barred = (in_pass != FALSE) ? &RamTst_Mark : &RamTst_Never;
+    static const volatile boolean never = FALSE; /* what bars no slice of a full or a partial test */
+    const volatile boolean *barred = (in_pass != FALSE) ? &RamTst_Mark : &never;
     MemTst_SliceType slice;
     uint32 drops = 0u;
     uint32 verdict;
@@ -513,18 +515,21 @@ void RamTst_MainFunction(void)
     }
 }
 
-/* Tests blocks one after another, from one on up to another. */
-static void RamTst_TestBlocks(uint32 first, uint32 last)
+/* Tests so many blocks one after another. */
+static void RamTst_TestBlocks(uint32 first, uint32 count)
 {
-    RamTst_TestType test = {0u, 0u, FALSE};
-    uint32 block;
+    RamTst_TestType test;
+    uint32 left = count;
 
-    for (block = first; block <= last; block++) {
+    test.block = first;
+    test.slice = 0u;
+    test.failed = FALSE;
+    while (left > 0u) {
         boolean ends_block = FALSE;
 
-        test.block = block;
-        while (ends_block == FALSE) {
-            (void)RamTst_TestSlice(&test, FALSE, &ends_block);
+        (void)RamTst_TestSlice(&test, FALSE, &ends_block);
+        if (ends_block != FALSE) {
+            left--;
         }
     }
 }
@@ -536,7 +541,7 @@ void RamTst_RunFullTest(void)
 
     if (RamTst_Begin(service) != FALSE) {
         if (RamTst_IsTaken(service, RamTst_Enter(service, 0u, &back)) != FALSE) {
-            RamTst_TestBlocks(0u, (uint32)RamTst_Set()->number_of_blocks - 1u);
+            RamTst_TestBlocks(0u, RamTst_Set()->number_of_blocks);
             RamTst_Leave(back);
         }
         RamTst_Busy = FALSE;
@@ -550,7 +555,7 @@ void RamTst_RunPartialTest(RamTst_NumberOfBlocksType BlockId)
 
     if (RamTst_Begin(service) != FALSE) {
         if (RamTst_IsTaken(service, RamTst_Enter(service, BlockId, &back)) != FALSE) {
-            RamTst_TestBlocks(BlockId, BlockId);
+            RamTst_TestBlocks(BlockId, 1u);
             RamTst_Leave(back);
         }
         RamTst_Busy = FALSE;

@@ -4,11 +4,11 @@
 _mt() {
     local word=${COMP_WORDS[COMP_CWORD]}
     if [ "$COMP_CWORD" = 1 ]; then
-        mapfile -t COMPREPLY < <(compgen -W 'run check fmt migrate cut locate verify soak explain new rules help --help --version --unproved' -- "$word")
+        mapfile -t COMPREPLY < <(compgen -W 'run check fmt migrate cut locate verify soak explain generate new rules help --help --version --unproved' -- "$word")
         return
     fi
     case ${COMP_WORDS[1]} in
-    help) mapfile -t COMPREPLY < <(compgen -W 'run check fmt migrate cut locate verify soak explain new rules' -- "$word") ;;
+    help) mapfile -t COMPREPLY < <(compgen -W 'run check fmt migrate cut locate verify soak explain generate new rules' -- "$word") ;;
     soak | rules) mapfile -t COMPREPLY < <(compgen -W '--help' -- "$word") ;;
     explain) mapfile -t COMPREPLY < <(compgen -W 'run check fmt migrate cut locate verify --help' -- "$word"; compgen -f -- "$word") ;;
     *) mapfile -t COMPREPLY < <(compgen -W '--help' -- "$word"; compgen -f -- "$word") ;;

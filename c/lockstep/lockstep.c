@@ -8,14 +8,14 @@
 #include "MemTst.h"
 #include "MemTst_Hooks.h"
 #include "RamTst.h"
-#include "board.h"
+#include "faults.h"
 #include "mt.h"
 
 #include <stdio.h>
 #include <stdlib.h>
 #include <string.h>
 
-enum { FAULTS = 50, FIRST = 1, MOST_BROKEN = 8 };
+enum { MOST_BROKEN = 8 };
 
 static const char *const names[] = {"checkerboard", "march-c-minus", "mats-plus", "walk-path", "galpat", "transparent-galpat"};
 
@@ -54,23 +54,6 @@ uint32 lockstep_is_urgent(void) {
     return 1;
 }
 
-/* The fault with a number, in the words of a slice and the word at each end of it. */
-static struct fault fault_of(int number, uint32_t words) {
-    uint32_t seed = (uint32_t)number * 2654435761u + 12345u;
-    struct fault it = {.kind = (enum fault_kind)(1 + number % 9)};
-    it.aggressor = (struct spot){seed % words, (seed >> 8) % MEMTST_WIDTH};
-    it.victim = (struct spot){(it.aggressor.word + 1 + (seed >> 14) % (words - 1)) % words, (seed >> 20) % MEMTST_WIDTH};
-    it.rises = seed >> 25 & 1, it.holds = seed >> 26 & 1, it.value = seed >> 27 & 1, it.wired_and = seed >> 28 & 1;
-    it.seen = (MemTst_WordType)((uint64_t)seed * 0x9e3779b97f4a7c15u);
-    return it;
-}
-
-static void set_up_memory(int fault, uint32_t cells) {
-    memory_power_up(cells + 2, 0, MEMTST_WIDTH, 0);
-    for (uint32_t i = 0; i < cells + 2; i++) memory_write(i, (MemTst_WordType)((i + 1) * 0x9e3779b97f4a7c15u));
-    if (fault >= 0) memory_inject(fault_of(fault, cells + 2));
-}
-
 static void set_up_engine(const MemTst_SliceType *slice, const char *name) {
     struct mt_settings settings = {MEMTST_WIDTH, slice->destructive ? MT_FILL_WORDS : MT_KEEP_WORDS, slice->first, slice->plan->cells,
                                    slice->background, slice->fill};
@@ -106,7 +89,7 @@ static void run_broken(MemTst_SliceType *slice, const char *name) {
 
 static void run_plan(const RamTst_AlgParamsType *set, const char *name, const MemTst_PlanType *plan, uint32_t most_faulty) {
     for (int destructive = 0; destructive < (set->own ? 1 : 2); destructive++) {
-        MemTst_SliceType slice = {.plan = plan, .first = FIRST, .background = set->background, .fill = (MemTst_WordType)0xa5c396f00f69c35au,
+        MemTst_SliceType slice = {.plan = plan, .first = FIRST, .background = set->background, .fill = FILL,
                                   .own = set->own, .destructive = (boolean)destructive};
         uint32_t count = plan->count + (destructive ? 1 : 2) * plan->cells;
         for (int fault = -1; fault < (plan->cells <= most_faulty ? FAULTS : 0); fault++) run(&slice, name, fault, UINT32_MAX, count);

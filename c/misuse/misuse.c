@@ -1,5 +1,5 @@
 /*
- * Calls that no script makes, over the tables of jobs/two-sets.job: pointers to nothing, tables that are not as they were
+ * Calls that no script makes, over the tables of c/misuse/misuse.job: pointers to nothing, tables that are not as they were
  * generated, services that preempt a running call and may not, and a plan that is left before its end. A line for each that is
  * not answered as it has to be.
  */
@@ -44,16 +44,16 @@ static void reports(const char *what, uint32 error) {
 static RamTst_ConfigType ram;
 static RamTst_AlgParamsType sets[RAMTST_SETS];
 static RamTst_CellType ram_cells[RAMTST_SERVICES * RAMTST_STATES];
-static MemTst_PlanType plan;
+static MemTst_PlanType plans[2];
 static RamTst_BlockType block;
 
 static void copy_ram(void) {
     ram = RamTst_Config;
     for (uint32 i = 0; i < RAMTST_SETS; i++) sets[i] = RamTst_Config.sets[i];
     for (uint32 i = 0; i < RAMTST_SERVICES * RAMTST_STATES; i++) ram_cells[i] = RamTst_Config.cells[i];
-    plan = sets[1].plans[0];
+    plans[0] = sets[1].plans[0], plans[1] = sets[1].plans[1];
     block = sets[1].blocks[0];
-    sets[1].plans = &plan;
+    sets[1].plans = plans;
     sets[1].blocks = &block;
     ram.sets = sets;
     ram.cells = ram_cells;
@@ -73,10 +73,10 @@ static void spoilt_ram(void) {
     sets[1].background++, refuses_ram("a background");
     sets[1].number_of_blocks = 65, refuses_ram("too many blocks");
     block.fill++, refuses_ram("a block");
-    plan.cells++, refuses_ram("the cells of a plan");
-    plan.count--, refuses_ram("the length of a plan");
-    for (uint32 i = 0; i < plan.count; i++) steps[i] = plan.steps[i];
-    steps[3] ^= 1u, plan.steps = steps, refuses_ram("a step");
+    plans[0].cells++, refuses_ram("the cells of a plan");
+    plans[1].count--, refuses_ram("the length of a plan");
+    for (uint32 i = 0; i < plans[1].count; i++) steps[i] = plans[1].steps[i];
+    steps[3] ^= 1u, plans[1].steps = steps, refuses_ram("a step");
     ram_cells[7].next++, refuses_ram("a next state");
     ram_cells[100].reply++, refuses_ram("a reply");
     ram.number_of_sets--, refuses_ram("one set fewer");
@@ -123,6 +123,26 @@ static void no_pointers(void) {
     FlsTst_GetVersionInfo(NULL_PTR), reports("the flash version to nothing", FLSTST_E_PARAM_POINTER);
 }
 
+/* ---- what is answered beside a refusal, and before there is a result */
+
+static void refused_values(void) {
+    expect("no set in UNINIT", RamTst_GetAlgParams() == 0u);
+    expect("no cells in UNINIT", RamTst_GetNumberOfTestedCells() == 0u);
+    expect("no algorithm in UNINIT", RamTst_GetTestAlgorithm() == RAMTST_ALGORITHM_UNDEFINED);
+    expect("no result in UNINIT", RamTst_GetTestResult() == RAMTST_RESULT_UNDEFINED);
+    expect("no result of a block in UNINIT", RamTst_GetTestResultPerBlock(0) == RAMTST_RESULT_UNDEFINED);
+    expect("no flash result in UNINIT", FlsTst_GetTestResultFgnd() == FLSTST_RESULT_NOT_TESTED);
+    for (int initialised = 0; initialised < 2; initialised++) {
+        FlsTst_TestResultBgndType last = FlsTst_GetTestResultBgnd();
+        FlsTst_ErrorDetailsType details = FlsTst_GetErrorDetails();
+        expect("no interval", last.id == 0u && last.result == FLSTST_RESULT_NOT_TESTED);
+        expect("no details", details.kind == FLSTST_NO_ERROR && details.block == 0u && details.word == 0u);
+        FlsTst_Init(&FlsTst_Config);
+    }
+    FlsTst_DeInit();
+    misuse_error = 0;
+}
+
 /* ---- services that preempt a running call */
 
 static void preempt_ram(void) {
@@ -164,18 +184,25 @@ static void busy_fls(void) {
 
 /* ---- services that preempt between a sequence and what it leaves */
 
+static int locks;
+
 static void stop_and_allow(void) {
     outside = NULL;
     RamTst_Stop(), RamTst_Allow();
 }
 
-static void abort_and_init(void) {
-    outside = NULL;
-    FlsTst_Abort();
+static void suspend(void) {
+    locks++;
+    if (locks == 1) RamTst_Suspend();
 }
 
-/* The pass was begun anew, so the position stays at its start: the last block is not tested by the next two ticks of one slice. */
-static void dropped_passes(void) {
+static void abort_flash(void) {
+    locks++;
+    if (locks == 1) FlsTst_Abort();
+}
+
+/* The pass was begun anew in its first slice, so that its position stays at its start. */
+static void dropped_pass(void) {
     RamTst_Init(&RamTst_Config), RamTst_ChangeNumberOfTestedCells(2), RamTst_Allow();
     outside = stop_and_allow;
     RamTst_MainFunction();
@@ -185,10 +212,23 @@ static void dropped_passes(void) {
     expect("both slices of the first block", RamTst_GetTestResultPerBlock(0) == RAMTST_RESULT_OK);
     expect("none of the second", RamTst_GetTestResultPerBlock(1) == RAMTST_RESULT_NOT_TESTED);
     RamTst_DeInit();
+}
+
+/* A group that was suspended in its first slice tries one more lock, under which it finds that, and none after it. */
+static void barred_groups(void) {
+    RamTst_Init(&RamTst_Config), RamTst_ChangeNumberOfTestedCells(65536), RamTst_Allow();
+    locks = 0, outside = suspend;
+    RamTst_MainFunction();
+    expect("two locks", locks == 2);
+    expect("suspended", RamTst_GetExecutionStatus() == RAMTST_EXECUTION_SUSPENDED);
+    expect("one slice was tested", RamTst_GetTestResultPerBlock(0) == RAMTST_RESULT_UNDEFINED);
+    RamTst_DeInit();
     FlsTst_Init(&FlsTst_Config);
-    outside = abort_and_init;
+    locks = 0, outside = abort_flash;
     FlsTst_MainFunction();
+    expect("two locks of flash", locks == 2);
     expect("aborted", FlsTst_GetCurrentState() == FLSTST_ABORTED);
+    outside = NULL;
     FlsTst_DeInit();
     misuse_error = 0;
 }
@@ -225,11 +265,13 @@ static void numbers(void) {
 int main(void) {
     expect("UNINIT at first", RamTst_GetExecutionStatus() == RAMTST_EXECUTION_UNINIT && FlsTst_GetCurrentState() == FLSTST_UNINIT);
     no_pointers();
+    refused_values();
     spoilt_ram();
     spoilt_fls();
     busy_ram();
     busy_fls();
-    dropped_passes();
+    dropped_pass();
+    barred_groups();
     unfinished_plan();
     numbers();
     return wrong;

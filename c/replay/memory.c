@@ -1,9 +1,9 @@
 /* The simulated memory, by the rules of docs/RULES.md. */
 #include "board.h"
 
-#include <stdlib.h>
+enum { MOST_WORDS = 65536 };
 
-static uint64_t *ram_words, *flash_words, ones;
+static uint64_t ram_words[MOST_WORDS], flash_words[MOST_WORDS], ones;
 static struct fault fault;
 
 static uint64_t bit_of(struct spot spot) { return (uint64_t)1 << spot.bit; }
@@ -19,8 +19,6 @@ static int holds(struct spot spot) { return (ram_words[spot.word] & bit_of(spot)
 
 void memory_power_up(uint32_t ram, uint32_t flash, uint32_t width, uint64_t initial) {
     ones = width == 64 ? UINT64_MAX : ((uint64_t)1 << width) - 1;
-    ram_words = realloc(ram_words, ram * sizeof *ram_words);
-    flash_words = realloc(flash_words, (flash + 1) * sizeof *flash_words);
     for (uint32_t i = 0; i < ram; i++) ram_words[i] = initial;
     for (uint32_t i = 0; i < flash; i++) flash_words[i] = ones;
     fault.kind = NO_FAULT;

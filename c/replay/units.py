@@ -73,6 +73,11 @@ def drawn_jobs(configurations=CONFIGURATIONS, scripts=SCRIPTS):
             yield Job("drawn job %d %d" % (configuration, script), text)
 
 
+def misuse_job():
+    """The configuration of the calls that no script makes."""
+    return Job("c/misuse/misuse.job", read("c", "misuse", "misuse.job"))
+
+
 def by_configuration(jobs):
     groups = {}
     for job in jobs:
@@ -102,7 +107,7 @@ def compile_objects(sources, folder, hooks, extra=(), flags=FLAGS, modules=C):
 
 
 def link(objects, target):
-    words = [os.environ.get("CC", "cc")] + objects + ["--coverage", "-o", target]
+    words = [os.environ.get("CC", "cc")] + objects + ["--coverage", "-fsanitize=undefined", "-o", target]
     return subprocess.run(words, stdout=subprocess.DEVNULL, stderr=subprocess.PIPE).returncode == 0
 
 

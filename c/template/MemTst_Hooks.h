@@ -39,7 +39,7 @@ typedef volatile MemTst_WordType *MemTst_BaseType;
 #define FLSTST_DET(service, error) ((void)(service), (void)(error))
 
 /* A slice or a comparison that failed, for the diagnostic event manager: the block, and in flash the first word that differs. */
-#define RAMTST_DEM(set, block) ((void)(set), (void)(block))
-#define FLSTST_DEM(kind, block, word) ((void)(kind), (void)(block), (void)(word))
+#define RAMTST_DEM(set, block) ((void)0)
+#define FLSTST_DEM(kind, block, word) ((void)0)
 
 #endif

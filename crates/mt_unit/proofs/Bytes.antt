@@ -1,11 +1,9 @@
 -- Bytes of a plan, and their steps.
-use Rattle.std.proofs.Common.{ℕ, suc, zero, ◌≡◌, ◌+◌, ◌*◌, ◌<◌, ◌≤◌, List, [], ◌∷◌, ◌++◌, map, take, length, refl, arith, ap, sym, ◌∙◌, Some}
+use Rattle.std.proofs.Common.{ℕ, suc, zero, ◌≡◌, ◌+◌, ◌*◌, ◌<◌, List, [], ◌∷◌, ◌++◌, map, take, refl, arith, ap, ◌∙◌, Some}
 use Rattle.std.specs.Prelude.{Bool, ◌/◌, ◌%◌, ◌==◌, slice_get}
 use Rattle.mt_fault.specs.Faulty.{is_odd}
-use Rattle.std.proofs.lemmas.List.{map-append}
 use Rattle.mt_plan.specs.declared.algorithm.Act.{Act}
 use Rattle.mt_plan.specs.declared.algorithm.Act.TheVariants.{ReadPlain, ReadFlipped, WritePlain, WriteFlipped}
-use Rattle.mt_plan.specs.declared.algorithm.Algorithm.{Algorithm}
 use Rattle.mt_plan.specs.declared.algorithm.Step.{Step}
 use Rattle.mt_plan.specs.Plan.{steps_of}
 use Rattle.mt_unit.specs.Plans.{act_bits, act_with, byte_of, plan_of, step_in}

@@ -1,10 +1,9 @@
 -- The loop over a plan makes the accesses of the sequence.
-use Rattle.std.proofs.Common.{ℕ, suc, zero, ◌≡◌, ◌+◌, ◌-◌, ◌*◌, ◌<◌, ◌≤◌, Bool, true, false, List, [], ◌∷◌, ◌++◌, map, take, drop, length, refl, arith, ap, sym, ◌∙◌, Option, Some, None, append-nil, append_assoc, subst}
-use Rattle.std.specs.Prelude.{◌/◌, ◌%◌, ◌&&◌, ◌||◌, ◌==◌, nat_lt, if◌then◌else◌, find}
+use Rattle.std.proofs.Common.{ℕ, suc, zero, ◌≡◌, ◌+◌, ◌-◌, ◌<◌, ◌≤◌, Bool, true, false, List, [], ◌∷◌, ◌++◌, map, take, drop, length, refl, arith, ap, sym, ◌∙◌, Some, None}
+use Rattle.std.specs.Prelude.{◌/◌, ◌&&◌, ◌||◌, if◌then◌else◌, find}
 use Rattle.std.specs.Option.{option_or}
 use Rattle.std.specs.List.{range_with_len}
-use Rattle.std.proofs.lemmas.Bool.{lt-ltb, le-ltb}
-use Rattle.std.proofs.lemmas.List.{length-append, length-map, take-append-le}
+use Rattle.std.proofs.lemmas.List.{length-append}
 use Rattle.std.proofs.lemmas.List.Folds.{find-append}
 use Rattle.mt_word.specs.declared.Width.{Width}
 use Rattle.mt_word.specs.Word.{complement_of}
@@ -12,7 +11,6 @@ use Rattle.mt_fault.specs.Faulty.{is_odd}
 use Rattle.mt_fault.specs.Items.{Item, Look, Check, Store}
 use Rattle.mt_plan.specs.Accesses.{act_on, item_of}
 use Rattle.mt_plan.specs.Lists.{cells}
-use Rattle.mt_plan.specs.Plan.{steps_of}
 use Rattle.mt_plan.specs.declared.algorithm.Act.{Act}
 use Rattle.mt_plan.specs.declared.algorithm.Act.TheVariants.{ReadPlain, ReadFlipped, WritePlain, WriteFlipped}
 use Rattle.mt_plan.specs.declared.algorithm.Step.{Step}

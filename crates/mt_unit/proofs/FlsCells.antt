@@ -1,7 +1,7 @@
 -- The unit's cells are those of FlsTst's state table.
-use Rattle.std.proofs.Common.{ℕ, ◌≡◌, Bool, true, false, refl, ap, Option, Some, None, length}
-use Rattle.std.specs.Prelude.{nat_lt, nat_le, ◌&&◌, if◌then◌else◌}
-use Rattle.mt_window.specs.Rows.{Refuses, Goes, Runs}
+use Rattle.std.proofs.Common.{ℕ, ◌≡◌, Bool, true, false, refl, ap, length}
+use Rattle.std.specs.Prelude.{nat_lt, if◌then◌else◌}
+use Rattle.mt_window.specs.Rows.{Refuses, Runs}
 use Rattle.mt_window.specs.declared.reply.Refusal.TheVariants as refusal
 use Rattle.mt_fls.specs.State.{FlsTst}
 use Rattle.mt_fls.specs.Table.{FlsCell, cell}

@@ -1,17 +1,16 @@
 -- Carrying a plan out is the attempt that is answered so.
-use Rattle.std.proofs.Common.{ℕ, zero, suc, ◌≡◌, ◌+◌, ◌-◌, ◌<◌, ◌≤◌, Bool, true, false, List, [], ◌∷◌, ◌++◌, map, take, drop, length, refl, arith, ap, sym, ◌∙◌, Option, Some, None, append-nil}
-use Rattle.std.specs.Prelude.{◌&&◌, nat_lt, if◌then◌else◌, find, slice_index}
+use Rattle.std.proofs.Common.{ℕ, ◌≡◌, ◌+◌, ◌-◌, ◌<◌, ◌≤◌, Bool, true, false, List, [], ◌∷◌, ◌++◌, map, take, drop, length, refl, arith, ap, sym, ◌∙◌, Option, Some, None, append-nil}
+use Rattle.std.specs.Prelude.{◌&&◌, nat_lt, if◌then◌else◌, find}
 use Rattle.std.specs.Option.{option_or}
 use Rattle.std.specs.List.{range_with_len}
 use Rattle.std.proofs.Math.Seq.{take-append-add}
 use Rattle.std.proofs.lemmas.Bool.{lt-ltb, le-ltb}
 use Rattle.std.proofs.lemmas.List.{length-append, length-map, take-append-le}
 use Rattle.mt_word.specs.declared.Width.{Width}
-use Rattle.mt_fault.specs.Items.{Item, Look, Store}
+use Rattle.mt_fault.specs.Items.{Item, Look}
 use Rattle.mt_plan.specs.Accesses.{item_of}
 use Rattle.mt_plan.specs.Lists.{cells}
 use Rattle.mt_plan.specs.Plan.{steps_of}
-use Rattle.mt_plan.specs.declared.algorithm.Algorithm.{Algorithm}
 use Rattle.mt_plan.specs.declared.algorithm.Policy.{Policy}
 use Rattle.mt_plan.specs.declared.algorithm.Policy.TheVariants.{NonDestructive, Destructive}
 use Rattle.mt_seq.specs.Attempts.{keeps_words, moments}

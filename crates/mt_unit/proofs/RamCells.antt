@@ -1,5 +1,5 @@
 -- The unit's cells are those of RamTst's state table.
-use Rattle.std.proofs.Common.{ℕ, ◌≡◌, Bool, true, false, refl, ap, Option, Some, None, length}
+use Rattle.std.proofs.Common.{ℕ, ◌≡◌, Bool, true, false, refl, ap, Some, None, length}
 use Rattle.std.specs.Prelude.{nat_lt, nat_le, ◌&&◌, if◌then◌else◌}
 use Rattle.mt_window.specs.Rows.{Refuses, Goes, Runs}
 use Rattle.mt_window.specs.declared.reply.Refusal.TheVariants as refusal

@@ -1,9 +1,7 @@
 -- The cells of FlsTst's state table, as a control unit has them.
 use Rattle.std.specs.Prelude.{ℕ, ◌≡◌}
-use Rattle.mt_window.specs.Rows.{Cell, Refuses, Goes, Answers, Rests, Runs}
-use Rattle.mt_window.specs.declared.reply.Refusal.{Refusal}
+use Rattle.mt_window.specs.Rows.{Refuses, Goes, Answers, Rests, Runs}
 use Rattle.mt_window.specs.declared.reply.Refusal.TheVariants as refusal
-use Rattle.mt_blocks.specs.Slices.{Piece}
 use Rattle.mt_fls.specs.State.{FlsTst}
 use Rattle.mt_fls.specs.Table.{Service, FlsCell, cell}
 use Rattle.mt_fls.specs.Table as table

@@ -1,8 +1,7 @@
 -- What plans are, said from outside.
-use Rattle.std.specs.Prelude.{ℕ, ◌+◌, ◌<◌, ◌≤◌, ◌≡◌, Bool, true, false, ◌&&◌, nat_lt, List, [], ◌++◌, map, take, length, Option, Some, None, if◌then◌else◌, find, slice_index}
+use Rattle.std.specs.Prelude.{ℕ, ◌<◌, ◌≤◌, ◌≡◌, Bool, ◌&&◌, nat_lt, List, [], ◌++◌, map, take, length, Option, Some, None, if◌then◌else◌, find}
 use Rattle.mt_word.specs.declared.Width.{Width}
-use Rattle.mt_fault.specs.Items.{Item, Store}
-use Rattle.mt_plan.specs.Lists.{cells}
+use Rattle.mt_fault.specs.Items.{Item}
 use Rattle.mt_plan.specs.Plan.{steps_of}
 use Rattle.mt_plan.specs.declared.algorithm.Algorithm.{Algorithm}
 use Rattle.mt_seq.specs.Attempts.{keeps_words, moments}

@@ -1,5 +1,5 @@
 -- The numbers that a C text has: digits that stand for themselves, with a `u` right after them.
-use Rattle.std.specs.Prelude.{ℕ, ◌+◌, ◌-◌, ◌*◌, ◌^◌, ◌==◌, Bool, true, false, ◌&&◌, ◌||◌, nat_lt, nat_le, List, [], ◌∷◌, ◌++◌, if◌then◌else◌}
+use Rattle.std.specs.Prelude.{ℕ, ◌+◌, ◌-◌, ◌*◌, ◌^◌, ◌==◌, Bool, ◌&&◌, ◌||◌, nat_lt, nat_le, List, [], ◌∷◌, ◌++◌, if◌then◌else◌}
 use Rattle.mt_unit.specs.declared.reader.Place.{Place}
 use Rattle.mt_unit.specs.declared.reader.Place.TheVariants.{Between, Word, Number}
 

@@ -1,5 +1,5 @@
 -- Both state tables in numbers, row by row.
-use Rattle.std.specs.Prelude.{ℕ, List, [], ◌∷◌, ◌++◌}
+use Rattle.std.specs.Prelude.{ℕ, List, [], ◌∷◌}
 use Rattle.std.specs.List.{flat_map}
 use Rattle.mt_unit.specs.declared.cell.CellReply.{CellReply}
 use Rattle.mt_unit.specs.declared.cell.CellReply.TheVariants.{Taken, RefusedUninit, RefusedStatus, Resting}

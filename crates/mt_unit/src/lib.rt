@@ -26,3 +26,6 @@ pub use ram_cells::{RamColumn, RamRow, RamTableCell, ram_cell};
 pub use reader::numbers_in;
 pub use source::{Unwritten, fls_source, ram_source};
 pub use tables::{lengths_of, rest_in, slices_in, words_in};
+
+#[cfg(test)]
+mod tests;

@@ -1,6 +1,6 @@
 //! The C files of the tables.
 
-ghost use Rattle.std.specs.Prelude.{◌≡◌, ◌≤◌, All, IfOk};
+ghost use Rattle.std.specs.Prelude.{◌≡◌, ◌≤◌, ℕ, All, IfOk};
 ghost use Rattle.mt_plan.specs.Plan.{IsAccepted};
 ghost use Rattle.mt_blocks.specs.Accepted.{IsAcceptedFls, IsAcceptedRam, IsAcceptedSet};
 ghost use Rattle.mt_unit.specs.Reading.{numbers_in};
@@ -30,6 +30,18 @@ impl From<AllocError> for Unwritten {
 
 const MADE: &str =
     "/* Made by mt generate; RamTst_Cfg.h has the configuration. It is not to be edited. */\n";
+
+/// A text, if the reader reads these numbers from it.
+fn read_back(alloc: Global, text: Vec<u8>, numbers: &[u64]) -> Result<Vec<u8>, Unwritten>
+    ensures { IfOk result (λ given. numbers_in given.items ≡ numbers.now) }
+{
+    let read = numbers_in(alloc, text.as_slice())?;
+    if read.as_slice() == numbers {
+        Ok(text)
+    } else {
+        Err(Unwritten::NotReadBack)
+    }
+}
 
 /// The name of a table of a set, as in `RamTst_Plans_0`.
 fn say_name(out: &mut Writer<'_>, name: &str, set: u64) -> Result<(), AllocError> {
@@ -83,17 +95,29 @@ fn say_plan_row(out: &mut Writer<'_>, number: u64, n: u32) -> Result<(), AllocEr
     out.say("},\n")
 }
 
-/// The plans of a set.
+/// The plans of a set for some lengths.
+fn say_each_plan(
+    out: &mut Writer<'_>,
+    set: &ParamSet,
+    number: u64,
+    lengths: &[u32],
+) -> Result<(), AllocError>
+    requires accepted { IsAccepted set.now.alg }
+    requires lengths { All (λ (n : ℕ). (1 ≤ n) × (n ≤ 64)) lengths.now }
+{
+    for n in lengths {
+        say_plan(out, set, number, *n)?;
+    }
+    Ok(())
+}
+
+/// The plans of a set, and what the tables say of them.
 fn say_plans(out: &mut Writer<'_>, set: &ParamSet, number: u64) -> Result<(), AllocError>
     requires accepted { IsAccepted set.now.alg }
     requires some { 1 ≤ set.now.atomic }
 {
     let lengths = lengths_of(set);
-    for n in lengths.as_slice() {
-        if *n <= 64 {
-            say_plan(out, set, number, *n)?;
-        }
-    }
+    say_each_plan(out, set, number, lengths.as_slice())?;
     begin(
         out,
         "MemTst_PlanType ",
@@ -179,13 +203,7 @@ pub fn ram_source(alloc: Global, shape: Shape, config: &RamConfig) -> Result<Vec
     let numbers = ram_numbers(alloc, shape, config)?;
     let mut out = Writer::new(alloc, numbers.as_slice());
     say_ram(&mut out, shape, config.sets.as_slice())?;
-    let text = out.into_text();
-    let read = numbers_in(alloc, text.as_slice())?;
-    if read.as_slice() == numbers.as_slice() {
-        Ok(text)
-    } else {
-        Err(Unwritten::NotReadBack)
-    }
+    read_back(alloc, out.into_text(), numbers.as_slice())
 }
 
 /// The blocks of one kind, if there are some.
@@ -243,11 +261,5 @@ pub fn fls_source(alloc: Global, shape: Shape, fls: &FlsConfig) -> Result<Vec<u8
     let numbers = fls_numbers(alloc, shape, fls)?;
     let mut out = Writer::new(alloc, numbers.as_slice());
     say_fls(&mut out, fls)?;
-    let text = out.into_text();
-    let read = numbers_in(alloc, text.as_slice())?;
-    if read.as_slice() == numbers.as_slice() {
-        Ok(text)
-    } else {
-        Err(Unwritten::NotReadBack)
-    }
+    read_back(alloc, out.into_text(), numbers.as_slice())
 }

@@ -1,4 +1,4 @@
-use Rattle.std.proofs.Common.{◌≡◌, ◌-◌, ◌≤◌}
+use Rattle.std.proofs.Common.{◌≡◌, ◌-◌}
 use Rattle.mt_unit.specs.Checksums.{shifted_by, taken_in}
 use Rattle.mt_unit.proofs.crc.taken_in.Given as goal
 
