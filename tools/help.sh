@@ -12,7 +12,7 @@ locate|mt_cli||a slice and its wrong reads|writes the single faults that explain
 verify|mt_cli||a job and a trace|writes whether a trace is the job's|./mt verify jobs/same.verify
 soak|mt_cli|NUMBER||replays the generated job with that number, and writes its sums|./mt soak 0
 explain|mt_desk|[FORM] FILE||writes in words why the file is refused|./mt explain jobs/refused-address.job
-generate|mt_desk|FILE FOLDER||writes the tables of a job's configuration in C, into the folder|./mt generate jobs/first.job .
+generate|mt_desk|FILE FOLDER||writes the tables of a job's configuration in C, into the folder|./mt generate jobs/first.job unit
 new|mt_desk|FILE||writes a job to begin with, with a comment on each key|./mt new my.job
 rules|mt_desk|||lists the rules that refuse an input, with their sentences|./mt rules
 FORMS

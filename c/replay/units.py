@@ -11,6 +11,8 @@ TABLES = ["RamTst_Cfg.c", "FlsTst_Cfg.c"]
 REPLAY = ["memory.c", "script.c", "replay.c"]
 FLAGS = ["-std=c99", "-Wall", "-Wextra", "-Werror", "-pedantic", "-O0"]
 CONFIGURATIONS, SCRIPTS = 60, 5
+# After how many seconds a replay is taken for one that does not end.
+PATIENCE = 60
 # What a handler must not ask for if its request is served before the results are entered.
 RESULTS = re.compile(rb"GetTestResult")
 
@@ -123,7 +125,7 @@ def build_replay(folder, extra=(), modules=C):
 def trace_of(program, job, words=()):
     """The trace of a job; None if the program was stopped."""
     try:
-        done = subprocess.run([program] + list(words), input=job.text, stdout=subprocess.PIPE, stderr=subprocess.DEVNULL, timeout=20)
+        done = subprocess.run([program] + list(words), input=job.text, stdout=subprocess.PIPE, stderr=subprocess.DEVNULL, timeout=PATIENCE)
     except subprocess.TimeoutExpired:
         return None
     return done.stdout if done.returncode in (0, 4) else None
