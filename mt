@@ -1,5 +1,5 @@
 #!/bin/sh
-# The command `mt`: its help, its forms, and the programs behind them. A program is proved and built first, with a line for
+# The command `mt`: its help, its forms, and the programs that do them. A program is proved and built first, with a line for
 # each crate on standard error, where it is missing or where a source of its crates or the toolchain has changed. Where that
 # fails, what the build said goes to standard error too, and the exit number is 1, which the program `mt_cli` never gives.
 #

@@ -7,7 +7,7 @@ use_program() {
     name_of_program=$1
     crate=$top/crates/$1
     program=$crate/out/$1
-    # The time of this file is that at which the building of the program began. Its lines are what tells the file of the
+    # The time of this file is that at which the building of the program began. Its lines tell the file of the
     # command `rt` from another, and what `rt version` says.
     stamp=$crate/out/mt.built
 }

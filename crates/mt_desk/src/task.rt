@@ -3,8 +3,8 @@
 use clap::{Arg, ArgMatches, Command, value_parser};
 use std::alloc::{AllocError, Global};
 
-/// What is asked for: a variant, a subcommand in `command` and an arm of `task_of` for each. `Nothing` is asked for by no
-/// words that `command` takes.
+/// What is asked for: a variant, a subcommand in `command` and an arm of `task_of` for each. `Nothing` is asked for by
+/// no words that `command` takes.
 #[derive(Clone, Copy, Debug)]
 pub enum Task<'a> {
     Explain { form: &'a str, file: &'a str },

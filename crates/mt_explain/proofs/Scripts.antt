@@ -3,7 +3,7 @@ use Rattle.std.proofs.Common.{ℕ, suc, ◌+◌, ◌≡◌, ◌==◌, Bool, true
 use Rattle.std.specs.List.{onto_first, position_or_len}
 use Rattle.mt_verify.specs.Lines.{lines}
 use Rattle.mt_replay.specs.Input.{Cut, cut, led, begun, Finished, Job, Parted, Whole, separator, preceded_by, parted, parted_at_end, job_of}
-use Rattle.mt_explain.specs.Lines.{is_separator, head_len, with_last, ScriptsStandBehindHeads}
+use Rattle.mt_explain.specs.Lines.{is_separator, head_len, with_last, ScriptsFollowHeads}
 
 with_last-cons : (first : List ℕ) (whole : List (List ℕ)) (rest : List ℕ) → with_last (first ∷ whole) rest ≡ first ∷ with_last whole rest
 with_last-cons first whole [] = refl
@@ -67,6 +67,6 @@ stands [] (byte ∷ rest) = at_end (byte ∷ rest) (is_separator (byte ∷ rest)
 stands (first ∷ more) rest =
     subst (Stands (parted Finished (first ∷ more) rest)) (sym (with_last-cons first more rest)) (at_line first more rest (is_separator first) refl (stands more rest))
 
-pub scripts_stand : ScriptsStandBehindHeads
+pub scripts_stand : ScriptsFollowHeads
 scripts_stand bytes config script e =
     ap behind (lines-cut bytes) ∙ subst (λ (job : Job). Stands job (with_last (cut bytes).lines (cut bytes).rest)) e (stands (cut bytes).lines (cut bytes).rest)

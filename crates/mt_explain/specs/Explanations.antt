@@ -9,7 +9,7 @@ use Rattle.mt_explain.specs.declared.explanation.Place.{Place}
 use Rattle.mt_explain.specs.Lines.{head_len, line_at}
 use Rattle.mt_explain.specs.Rows.{rule_of, rule_in, known}
 
--- the row is that of the rule that a status tells, and is there if the rule is one of the table
+-- the row is that of the rule that a status gives, and is there if the rule is one of the table
 abbrev pub IsRowOf : Status → Option (Bor Row) → Type 0
 IsRowOf status row = option_map (λ r. rule_in r.now) row ≡ option_and_then known (rule_of status)
 
@@ -17,8 +17,8 @@ IsRowOf status row = option_map (λ r. rule_in r.now) row ≡ option_and_then kn
 abbrev pub IsOfFile : List (List ℕ) → Place → Type 0
 IsOfFile file place = place.text.now ≡ line_at file place.line
 
--- A refused script line stands in the file behind as many lines as the configuration has with its separator, and is marked at the place that the
--- status tells. What else is refused may have a place, found again in the text.
+-- A refused script line stands in the file after as many lines as the configuration has with its separator, and is marked at the place
+-- that the status gives. What else is refused may have a place, found again in the text.
 abbrev pub IsPlaceOf : List (List ℕ) → Status → Option Place → Type 0
 IsPlaceOf file (BadScript line code column) place =
     (p : Place) × (place ≡ Some p) × (p.line ≡ head_len file + line) × (p.column ≡ column) × IsOfFile file p

@@ -7,7 +7,7 @@ use Rattle.mt_explain.specs.declared.row.Book.TheVariants.{Configuration, March,
 use Rattle.mt_explain.specs.declared.row.Rule.{Rule}
 use Rattle.mt_explain.specs.declared.row.Row.{Row}
 
--- the rule that a status tells
+-- the rule that a status gives
 abbrev pub rule_of : Status → Option Rule
 rule_of (BadConfig code) = Some (record { book = Configuration; number = code })
 rule_of (BadScript line code place) = Some (record { book = Line; number = code })

@@ -118,7 +118,7 @@ fn no_document(alloc: Global, head: &[u8]) -> Result<Note, AllocError> {
     }
 }
 
-// A line that is the separator but for white space around it.
+// A line that is the separator, with white space around it.
 fn near_separator(alloc: Global, file: &[&[u8]]) -> Result<Option<Note>, AllocError> {
     for (index, line) in file.iter().enumerate() {
         if line.trim_ascii() == b"=====".as_slice() {
@@ -128,7 +128,7 @@ fn near_separator(alloc: Global, file: &[&[u8]]) -> Result<Option<Note>, AllocEr
             )?;
             let help = String::from_str(
                 alloc,
-                "write the five equals signs alone, with a line feed behind them",
+                "write the five equals signs alone, with a line feed after them",
             )?;
             let mut note = Note::of(line.len(), found, help);
             note.mark = Some(Mark {

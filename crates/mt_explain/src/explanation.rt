@@ -16,8 +16,8 @@ use mt_replay::Status;
 use mt_word::NoMemory;
 use std::alloc::{AllocError, Global};
 
-/// Where an input is refused: the line of the file and the byte of it, both counted from 1, and the line's text. Behind the
-/// last line the text is empty.
+/// Where an input is refused: the line of the file and the byte of it, both counted from 1, and the line's text. After
+/// the last line the text is empty.
 #[derive(Clone, Copy, Debug)]
 pub struct Place<'a> {
     pub line: usize,
@@ -25,9 +25,9 @@ pub struct Place<'a> {
     pub text: &'a [u8],
 }
 
-/// Why an input is refused, if it is: the status that it gives; the row of the rule, and for a refused march that of the
-/// rule of marches; the place, where the text shows it; how many bytes are marked there; what was found; and what would be
-/// taken.
+/// Why an input is refused, if it is: the status that it gives; the row of the rule, and for a refused march that of
+/// the rule of marches; the place, if the text shows it; how many bytes are marked there; what was found; and what
+/// would be taken.
 #[derive(Drop)]
 pub struct Explanation<'a> {
     pub status: Status,

@@ -25,12 +25,12 @@ fn byte_count(lines: &[&[u8]]) -> usize {
 }
 
 impl<'a, 'l> File<'a, 'l> {
-    /// The lines of the configuration, without its separator; all where there is none.
+    /// The lines of the configuration, without its separator; all if there is none.
     pub fn head_lines(&self) -> &'l [&'a [u8]] {
         &self.lines[..self.lines.len().min(self.head.saturating_sub(1))]
     }
 
-    /// The bytes of the configuration; all where there is no separator.
+    /// The bytes of the configuration; all if there is no separator.
     pub fn head_bytes(&self) -> &'a [u8] {
         let count = byte_count(self.head_lines());
         &self.bytes[..self.bytes.len().min(count)]
@@ -44,12 +44,12 @@ impl<'a, 'l> File<'a, 'l> {
         &head[..head.len().min(MOST_BYTES)]
     }
 
-    /// The lines behind the configuration.
+    /// The lines after the configuration.
     pub fn body(&self) -> &'l [&'a [u8]] {
         &self.lines[self.lines.len().min(self.head)..]
     }
 
-    /// How many lines the script of a claim has, up to the second separator; all where there is none.
+    /// How many lines the script of a claim has, up to the second separator; all if there is none.
     pub fn script_len(&self) -> usize {
         let body = self.body();
         match body.iter().position(|line| is_separator(line)) {
@@ -68,7 +68,7 @@ impl<'a, 'l> File<'a, 'l> {
     }
 }
 
-/// A line of the script by its number, counted from 1; empty behind the last one.
+/// A line of the script by its number, counted from 1; empty after the last one.
 pub fn script_line<'a>(file: &File<'a, '_>, number: usize) -> &'a [u8] {
     line_at(file.lines, file.head.saturating_add(number).max(1))
 }

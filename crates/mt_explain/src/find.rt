@@ -61,7 +61,7 @@ impl Walk {
     }
 
     /// What a header begins.
-    fn behind(self, header: &[u8]) -> Walk {
+    fn after(self, header: &[u8]) -> Walk {
         match header {
             b"[[set]]" => self.set(),
             b"[[set.block]]" => self.block(),
@@ -91,7 +91,7 @@ pub enum Target<'k> {
     Value(&'k str),
 }
 
-// What stands before a comment, where no text is before it.
+// What stands before a comment, if no text is before it.
 fn before_comment(line: &[u8]) -> &[u8] {
     match line.iter().position(|byte| *byte == b'#') {
         Some(index) => line[..index].trim_ascii_end(),
@@ -113,7 +113,7 @@ struct Entry<'a> {
     value: Piece<'a>,
 }
 
-// The part of a line that ends it, but for white space and, unless it is a text, a comment.
+// The part of a line that ends it, without white space and, unless it is a text, without a comment.
 fn value_piece(line: &[u8], from: usize) -> Piece<'_> {
     let rest = line[from.min(line.len())..].trim_ascii_start();
     let column = line.len().saturating_sub(rest.len()).saturating_add(1);
@@ -182,15 +182,15 @@ fn header_piece(line: &[u8]) -> Piece<'_> {
     key_piece(before_comment(line))
 }
 
-/// Where a key or the header of a table stands, as far as lines show it: tables have headers of their own, and keys stand
-/// on lines of their own.
+/// Where a key or the header of a table stands, as far as lines show it: tables have headers of their own, and keys
+/// stand on lines of their own.
 pub fn find_spot(file: &[&[u8]], path: Path, target: Target<'_>) -> Option<Spot> {
     let mut walk = Walk::new();
     for (index, line) in file.iter().enumerate() {
         let number = number_of_line(index);
         let header = header_piece(line);
         if header.bytes.starts_with(b"[") {
-            walk = walk.behind(header.bytes);
+            walk = walk.after(header.bytes);
             if matches!(target, Target::Header) && walk.path == Some(path) {
                 return Some(spot_of(number, header));
             }

@@ -17,7 +17,7 @@ pub struct Finding<'t> {
 }
 
 impl<'t> Finding<'t> {
-    /// The note, with its place where the text shows it, and the table's name where it does not.
+    /// The note, with its place if the text shows it, and with the table's name.
     pub fn note(self, alloc: Global, file: &[&[u8]]) -> Result<Note, AllocError> {
         let Finding {
             path,
@@ -41,7 +41,7 @@ impl<'t> Finding<'t> {
     }
 }
 
-/// The whole number at a key; 0 where there is none.
+/// The whole number at a key; 0 if there is none.
 pub fn number(table: &Table, key: &str) -> i64 {
     match table.get(key) {
         Some(value) => value.as_integer().unwrap_or(0),
@@ -49,7 +49,7 @@ pub fn number(table: &Table, key: &str) -> i64 {
     }
 }
 
-/// The text at a key; the empty one where there is none.
+/// The text at a key; the empty one if there is none.
 pub fn text<'t>(table: &'t Table, key: &str) -> &'t str {
     match table.get(key) {
         Some(value) => value.as_str().unwrap_or(""),

@@ -17,7 +17,7 @@ fn line_len(bytes: &[u8]) -> usize
     bytes.iter().take_while(|b| **b != b'\n').count()
 }
 
-// The first line of a text that has a byte, and what is behind its line feed.
+// The first line of a text that has a byte, and what follows its line feed.
 fn first_line(text: &[u8]) -> (&[u8], &[u8])
     requires { 0 < length text.now }
     ensures lines { lines text.now ≡ result.0.now ∷ lines result.1.now }
@@ -28,8 +28,8 @@ fn first_line(text: &[u8]) -> (&[u8], &[u8])
     if len == text.len() {
         return (line, &[]);
     }
-    let (_, behind) = text.split_at(len + 1);
-    (line, behind)
+    let (_, after) = text.split_at(len + 1);
+    (line, after)
 }
 
 /// The lines of a text. A last line without a line feed counts where it has a byte.
@@ -39,9 +39,9 @@ pub fn lines_of(alloc: Global, bytes: &[u8]) -> Result<Vec<&[u8]>, AllocError>
     let mut found = Vec::new(alloc);
     let mut rest = bytes;
     while !rest.is_empty() {
-        let (line, behind) = first_line(rest);
+        let (line, after) = first_line(rest);
         found.push(line)?;
-        rest = behind;
+        rest = after;
     }
     Ok(found)
 }
@@ -69,7 +69,7 @@ pub fn head_len(file: &[&[u8]]) -> usize
     config_len(file) + 1
 }
 
-/// The line with a number, counted from 1; nothing behind the last one.
+/// The line with a number, counted from 1; nothing after the last one.
 pub fn line_at<'a>(file: &[&'a [u8]], number: usize) -> &'a [u8]
     ensures { result.now ≡ line_at (map (λ line. line.now) file.now) number }
 {

@@ -43,7 +43,7 @@ impl<'a> RefusedMarch<'a> {
     }
 }
 
-// The digit behind the last letter of this kind; `?` where there is none.
+// The digit after the last letter of this kind; `?` if there is none.
 fn last_digit(text: &[u8], letter: u8) -> char {
     let mut digit = '?';
     for pair in text.windows(2) {
@@ -115,7 +115,7 @@ pub fn march_note(
     let mut note = Note::of(march.length(), text, help(alloc, march)?);
     note.march = Some(march.kind);
     if let Some(spot) = find_spot(file, path, Target::Value("march")) {
-        // Behind the quote. With escapes, the value as a whole is marked.
+        // After the quote. With escapes, the value as a whole is marked.
         let plain = spot.length == march.text.len().saturating_add(2);
         let offset = if plain { march.place as usize } else { 0 };
         note.mark = Some(Mark {

@@ -9,7 +9,7 @@ pub struct Mark {
     pub column: usize,
 }
 
-/// What was found, what would be taken, and how many bytes are marked. A refused configuration has a mark of its own where
+/// What was found, what would be taken, and how many bytes are marked. A refused configuration has a mark of its own if
 /// it is found again in the text; a refused march has the number of its rule.
 #[derive(Debug, Drop)]
 pub struct Note {

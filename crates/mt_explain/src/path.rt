@@ -49,7 +49,7 @@ pub struct Placed<'t> {
     pub table: &'t Table,
 }
 
-/// The items of the array at a key; none where there is no array.
+/// The items of the array at a key; none if there is no array.
 pub fn items_at<'t>(table: &'t Table, key: &str) -> &'t [Value] {
     match table.get(key) {
         Some(value) => match value.as_array() {

@@ -7,8 +7,8 @@ ghost use Rattle.mt_explain.specs.Rows.{rule_of, same_book, same_rule, rule_in, 
 use crate::table::rows;
 use mt_replay::Status;
 
-/// What a rule is a rule of: configurations; the texts of marches; the lines of a script, of a location or of a claim; or
-/// the lines of a trace.
+/// What a rule is a rule of: configurations; the texts of marches; the lines of a script, of a location or of a claim;
+/// or the lines of a trace.
 #[derive(Clone, Copy, Debug, PartialEq, Eq)]
 pub enum Book {
     Configuration,
@@ -17,7 +17,7 @@ pub enum Book {
     Trace,
 }
 
-/// A rule: its book, and its number there, which a refusal tells.
+/// A rule: its book, and its number there, which a refusal gives.
 #[derive(Clone, Copy, Debug, PartialEq, Eq)]
 pub struct Rule {
     pub book: Book,

@@ -49,7 +49,7 @@ static ROWS: [Row; 42] = [
     Row {
         book: Book::Configuration,
         number: 9,
-        sentence: "the number of sets is not 1 to 16, that of a set's blocks not 1 to 64, or that of bgnd or fgnd above 64",
+        sentence: "there are not 1 to 16 sets, 1 to 64 blocks in a set, and at most 64 blocks in bgnd and in fgnd",
     },
     Row {
         book: Book::Configuration,
@@ -79,12 +79,12 @@ static ROWS: [Row; 42] = [
     Row {
         book: Book::Configuration,
         number: 15,
-        sentence: "atomic is not 1 to 64, cells not atomic to 65536, or retries not 0 to 16, or retries stands in version 1",
+        sentence: "atomic is not 1 to 64, cells not atomic to 65536, or retries not 0 to 16 or there in version 1",
     },
     Row {
         book: Book::Configuration,
         number: 16,
-        sentence: "atomic, cells or interval_end of fls is out of range, or a flash block or its copy is not within the flash",
+        sentence: "atomic, cells or interval_end of fls is out of range, or a flash block or copy leaves the flash",
     },
     Row {
         book: Book::Configuration,

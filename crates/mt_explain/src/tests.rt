@@ -6,7 +6,8 @@ use mt_replay::Status;
 use std::test::Fail;
 
 const JOB: &[u8] =
-    b"version = 1\nwidth = 8\nram = 10\n[[set]]\nalgorithm = \"march\"\natomic = 4\ncells = 8\n[[set.block]]\nfirst = 0\nlast = 9\npolicy = \"non-destructive\"\n=====\nram Init\napp r 10\n";
+    b"version = 1\nwidth = 8\nram = 10\n[[set]]\nalgorithm = \"march\"\natomic = 4\ncells = 8\n\
+    [[set.block]]\nfirst = 0\nlast = 9\npolicy = \"non-destructive\"\n=====\nram Init\napp r 10\n";
 
 #[test]
 fn a_refused_line(rt: HostRuntime) -> Result<(), Fail> {

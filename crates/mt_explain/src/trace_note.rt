@@ -77,7 +77,7 @@ fn expected_line(alloc: Global, job: &[u8], line: u32) -> Result<Option<Vec<u8>>
     if found { Ok(Some(text)) } else { Ok(None) }
 }
 
-// Whether a line is the expected one with a carriage return behind it.
+// Whether a line is the expected one with a carriage return after it.
 fn is_returned(given: Option<&[u8]>, expected: &[u8]) -> bool {
     match given {
         Some([front @ .., b'\r']) => front == expected,

@@ -1,5 +1,5 @@
 use Rattle.mt_explain.proofs.Scripts.{scripts_stand}
-use Rattle.mt_explain.proofs.laws.scripts_stand_behind_heads.Goals as goal
+use Rattle.mt_explain.proofs.laws.scripts_follow_heads.Goals as goal
 
 pub returns : goal.returns
 returns c = scripts_stand
