@@ -133,7 +133,10 @@ void FlsTst_Init(const FlsTst_ConfigType *ConfigPtr)
     }
 }
 
-/* Takes a service that moves the module by the table alone. `marks`: it ends a tick. The interval is dropped by the next Init. */
+/*
+ * Takes a service that moves the module by the table alone. `marks`: it ends a tick. The interval is dropped by the
+ * next Init.
+ */
 static void FlsTst_Move(uint8 service, boolean marks)
 {
     uint8 reply;

@@ -1,4 +1,7 @@
-/* Flash Test, after the AUTOSAR Specification of Flash Test: flash words are compared with a copy. README.md has the differences. */
+/*
+ * Flash Test, after the AUTOSAR Specification of Flash Test: flash words are compared with a copy. README.md has the
+ * differences.
+ */
 #ifndef FLSTST_H
 #define FLSTST_H
 
@@ -71,7 +74,10 @@ typedef struct {
     uint32 word;
 } FlsTst_ErrorDetailsType;
 
-/* The columns of the state table: the five states, and that inside a foreground test, which shows as the one before it. */
+/*
+ * The columns of the state table: the five states, and that inside a foreground test, which shows as the one before
+ * it.
+ */
 #define FLSTST_STATE_UNINIT (0u)
 #define FLSTST_STATE_INIT (1u)
 #define FLSTST_STATE_RUNNING (2u)

@@ -1,7 +1,10 @@
 #include "MemTst.h"
 #include "MemTst_Hooks.h"
 
-/* The words that a test keeps, the backgrounds of its cells if these are not the words kept, and how far it is in its plan. */
+/*
+ * The words that a test keeps, the backgrounds of its cells if these are not the words kept, and how far it is in its
+ * plan.
+ */
 static MemTst_WordType MemTst_Saved[MEMTST_MOST_CELLS];
 static MemTst_WordType MemTst_Backgrounds[MEMTST_MOST_CELLS];
 static const uint8 *volatile MemTst_Reached;

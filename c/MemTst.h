@@ -67,12 +67,15 @@ typedef struct {
 uint32 MemTst_Slice(const MemTst_SliceType *slice, const volatile boolean *barred);
 
 /*
- * Compares so many flash words with their copy under one lock, except if *barred is not 0 once the lock is held. Answers
- * MEMTST_PASS, MEMTST_FAIL with the number of the first word that differs in *where, or MEMTST_BARRED.
+ * Compares so many flash words with their copy under one lock, except if *barred is not 0 once the lock is held.
+ * Answers MEMTST_PASS, MEMTST_FAIL with the number of the first word that differs in *where, or MEMTST_BARRED.
  */
 uint32 MemTst_Compare(uint32 first, uint32 copy, uint32 cells, const volatile boolean *barred, uint32 *where);
 
-/* CRC-32 (IEEE 802.3) of some bytes, and of a number as so many bytes, the least first: `crc` is that of what came before. */
+/*
+ * CRC-32 (IEEE 802.3) of some bytes, and of a number as so many bytes, the least first: `crc` is that of what came
+ * before.
+ */
 uint32 MemTst_Crc(uint32 crc, const uint8 *bytes, uint32 count);
 uint32 MemTst_CrcNumber(uint32 crc, uint64 number, uint32 bytes);
 

@@ -168,8 +168,8 @@ void RamTst_Init(const RamTst_ConfigType *ConfigPtr)
 }
 
 /*
- * Takes a service that moves the module by the table alone. `drops`: it drops the pass. `marks`: it ends a tick. Init and Stop drop
- * the pass, so that Allow and DeInit, which come after or before them, need not.
+ * Takes a service that moves the module by the table alone. `drops`: it drops the pass. `marks`: it ends a tick. Init
+ * and Stop drop the pass, so that Allow and DeInit, which come after or before them, need not.
  */
 static void RamTst_Move(uint8 service, boolean drops, boolean marks)
 {
@@ -403,8 +403,8 @@ static void RamTst_Describe(const RamTst_TestType *test, MemTst_SliceType *slice
 }
 
 /*
- * Tests the next slice, in as many attempts as urgent interrupts make of it, and goes on to the one after it. FALSE if the slice
- * was barred. `in_pass`: it is a slice of the pass, whose position and failure are kept.
+ * Tests the next slice, in as many attempts as urgent interrupts make of it, and goes on to the one after it. FALSE
+ * if the slice was barred. `in_pass`: it is a slice of the pass, whose position and failure are kept.
  */
 static boolean RamTst_TestSlice(RamTst_TestType *test, boolean in_pass, boolean *ends_block)
 {
@@ -453,7 +453,10 @@ static boolean RamTst_Begin(uint8 service)
     return free;
 }
 
-/* Takes a full or a partial test by the table, if there is such a block. *back is the state to which the module goes back. */
+/*
+ * Takes a full or a partial test by the table, if there is such a block. *back is the state to which the module goes
+ * back.
+ */
 static uint8 RamTst_Enter(uint8 service, uint32 block, uint8 *back)
 {
     uint8 reply;

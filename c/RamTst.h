@@ -67,7 +67,9 @@ typedef uint32 RamTst_AlgParamsIdType;
 typedef uint32 RamTst_NumberOfTestedCellsType;
 typedef uint32 RamTst_NumberOfBlocksType;
 
-/* The columns of the state table: the four states, and those inside a full and a partial test, which show as RUNNING. */
+/*
+ * The columns of the state table: the four states, and those inside a full and a partial test, which show as RUNNING.
+ */
 #define RAMTST_STATE_UNINIT (0u)
 #define RAMTST_STATE_STOPPED (1u)
 #define RAMTST_STATE_RUNNING (2u)

@@ -1,4 +1,7 @@
-/* The standard types, as far as the modules use them. Where the platform has a Std_Types.h of its own, that one is taken. */
+/*
+ * The standard types, as far as the modules use them. Where the platform has a Std_Types.h of its own, that one is
+ * taken.
+ */
 #ifndef STD_TYPES_H
 #define STD_TYPES_H
 

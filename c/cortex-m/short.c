@@ -1,7 +1,8 @@
 /*
- * The short form of lockstep, for the host and for an emulated Cortex-M3: all plans for up to 8 cells, over sound memory and each of
- * 50 faults, with the words kept and destroyed, and broken off after each number of accesses. A line for each algorithm has the
- * checksum of all accesses and verdicts. On the host the same tests are compared with the proved engine by c/lockstep.
+ * The short form of lockstep, for the host and for an emulated Cortex-M3: all plans for up to 8 cells, over sound
+ * memory and each of 50 faults, with the words kept and destroyed, and broken off after each number of accesses. A
+ * line for each algorithm has the checksum of all accesses and verdicts. On the host the same tests are compared with
+ * the proved engine by c/lockstep.
  */
 #include "MemTst.h"
 #include "MemTst_Hooks.h"

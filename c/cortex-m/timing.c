@@ -1,6 +1,6 @@
 /*
- * Instructions a step and a word of the loop, on the emulated board: 64 cells of real memory under each algorithm. The hooks are
- * those of template/, with a word that asks for an urgent interrupt and a barrier after each write.
+ * Instructions a step and a word of the loop, on the emulated board: 64 cells of real memory under each algorithm.
+ * The hooks are those of template/, with a word that asks for an urgent interrupt and a barrier after each write.
  */
 #include "MemTst.h"
 #include "MemTst_Hooks.h"
@@ -29,7 +29,8 @@ static void put_ratio(const char *before, uint32 sum, uint32 count) {
 int main(void) {
     for (uint32 i = 0u; i < RAMTST_SETS; i++) {
         const RamTst_AlgParamsType *set = &RamTst_Config.sets[i];
-        MemTst_SliceType slice = {.plan = &set->plans[set->number_of_plans - 1u], .background = set->background, .own = set->own, .droppable = TRUE};
+        MemTst_SliceType slice = {.plan = &set->plans[set->number_of_plans - 1u], .background = set->background,
+                                  .own = set->own, .droppable = TRUE};
         uint32 all = instructions_of(&slice);
         put_number("set ", i);
         put_number(", steps ", slice.plan->count);

@@ -14,7 +14,8 @@ static struct fault fault_of(int number, uint32_t words) {
     uint32_t seed = (uint32_t)number * 2654435761u + 12345u;
     struct fault it = {.kind = (enum fault_kind)(1 + number % 9)};
     it.aggressor = (struct spot){seed % words, (seed >> 8) % MEMTST_WIDTH};
-    it.victim = (struct spot){(it.aggressor.word + 1 + (seed >> 14) % (words - 1)) % words, (seed >> 20) % MEMTST_WIDTH};
+    uint32_t other = (it.aggressor.word + 1 + (seed >> 14) % (words - 1)) % words;
+    it.victim = (struct spot){other, (seed >> 20) % MEMTST_WIDTH};
     it.rises = seed >> 25 & 1, it.holds = seed >> 26 & 1, it.value = seed >> 27 & 1, it.wired_and = seed >> 28 & 1;
     it.seen = (MemTst_WordType)((uint64_t)seed * 0x9e3779b97f4a7c15u);
     return it;

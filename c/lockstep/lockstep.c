@@ -1,9 +1,10 @@
 /*
  * The loop of the unit against the proved engine of mt_c, access by access.
  *
- * The tables have a set for each algorithm, with a plan for each number of cells from 1 to 64. Each plan is carried out in a
- * memory that is sound, and in one with each of 50 faults; with the words kept, and destroyed; and broken off after each number
- * of accesses, for up to 8 cells. Words: the most cells of a test with faults, 64 if there are none.
+ * The tables have a set for each algorithm, with a plan for each number of cells from 1 to 64. Each plan is carried
+ * out in a memory that is sound, and in one with each of 50 faults; with the words kept, and destroyed; and broken
+ * off after each number of accesses, for up to 8 cells. Words: the most cells of a test with faults, 64 if there are
+ * none.
  */
 #include "MemTst.h"
 #include "MemTst_Hooks.h"
@@ -17,7 +18,8 @@
 
 enum { MOST_BROKEN = 8 };
 
-static const char *const names[] = {"checkerboard", "march-c-minus", "mats-plus", "walk-path", "galpat", "transparent-galpat"};
+static const char *const names[] = {"checkerboard", "march-c-minus", "mats-plus",
+                                    "walk-path",    "galpat",        "transparent-galpat"};
 
 /* The test under way, in the engine, and what is known of it. */
 static struct mt_test engine;
@@ -27,7 +29,7 @@ static unsigned long accesses, tests;
 static const char *what;
 
 static void fail(const char *why) {
-    printf("lockstep: %s, width %d, %u cells from %u, access %u: %s\n", what, MEMTST_WIDTH, engine.settings.count, engine.settings.first, made, why);
+    printf("lockstep: %s, width %d, %u cells, access %u: %s\n", what, MEMTST_WIDTH, engine.settings.count, made, why);
     exit(1);
 }
 
@@ -55,17 +57,24 @@ uint32 lockstep_is_urgent(void) {
 }
 
 static void set_up_engine(const MemTst_SliceType *slice, const char *name) {
-    struct mt_settings settings = {MEMTST_WIDTH, slice->destructive ? MT_FILL_WORDS : MT_KEEP_WORDS, slice->first, slice->plan->cells,
-                                   slice->background, slice->fill};
+    struct mt_settings settings = {.width = MEMTST_WIDTH, .policy = slice->destructive ? MT_FILL_WORDS : MT_KEEP_WORDS,
+                                   .first = slice->first, .count = slice->plan->cells,
+                                   .background = slice->background, .fill = slice->fill};
     if (mt_set_up(&engine, &settings, name, strlen(name)).rule != MT_SET_UP) fail("the engine refuses the test");
     reply = mt_due(&engine, &due);
     made = 0;
 }
 
+/* The engine's reply that means the same as a verdict. */
+static uint32_t reply_of(uint32_t verdict) {
+    if (verdict == MEMTST_PASS) return MT_PASS;
+    if (verdict == MEMTST_FAIL) return MT_FAIL;
+    return verdict == MEMTST_DROPPED ? MT_BROKEN_OFF : 0;
+}
+
 /* How the test has to end, after so many accesses. */
 static void compare_end(uint32_t verdict, uint32_t count) {
-    uint32_t told = verdict == MEMTST_PASS ? MT_PASS : verdict == MEMTST_FAIL ? MT_FAIL : verdict == MEMTST_DROPPED ? MT_BROKEN_OFF : 0;
-    if (reply != told) fail("the engine ends otherwise");
+    if (reply != reply_of(verdict)) fail("the engine ends otherwise");
     if (made != count) fail("another number of accesses");
 }
 
@@ -87,12 +96,13 @@ static void run_broken(MemTst_SliceType *slice, const char *name) {
     for (uint32_t k = 1; k < cells + slice->plan->count; k++) run(slice, name, -1, k, k > cells ? k + cells : k);
 }
 
-static void run_plan(const RamTst_AlgParamsType *set, const char *name, const MemTst_PlanType *plan, uint32_t most_faulty) {
+static void run_plan(const RamTst_AlgParamsType *set, const char *name, const MemTst_PlanType *plan, uint32_t most) {
     for (int destructive = 0; destructive < (set->own ? 1 : 2); destructive++) {
         MemTst_SliceType slice = {.plan = plan, .first = FIRST, .background = set->background, .fill = FILL,
                                   .own = set->own, .destructive = (boolean)destructive};
         uint32_t count = plan->count + (destructive ? 1 : 2) * plan->cells;
-        for (int fault = -1; fault < (plan->cells <= most_faulty ? FAULTS : 0); fault++) run(&slice, name, fault, UINT32_MAX, count);
+        int faults = plan->cells <= most ? FAULTS : 0;
+        for (int fault = -1; fault < faults; fault++) run(&slice, name, fault, UINT32_MAX, count);
         if (!destructive && plan->cells <= MOST_BROKEN) run_broken(&slice, name);
     }
 }

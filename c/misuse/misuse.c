@@ -1,7 +1,7 @@
 /*
- * Calls that no script makes, over the tables of c/misuse/misuse.job: pointers to nothing, tables that are not as they were
- * generated, services that preempt a running call and may not, and a plan that is left before its end. A line for each that is
- * not answered as it has to be.
+ * Calls that no script makes, over the tables of c/misuse/misuse.job: pointers to nothing, tables that are not as
+ * they were generated, services that preempt a running call and may not, and a plan that is left before its end. A
+ * line for each that is not answered as it has to be.
  */
 #include "MemTst.h"
 #include "MemTst_Hooks.h"
@@ -263,7 +263,8 @@ static void numbers(void) {
 }
 
 int main(void) {
-    expect("UNINIT at first", RamTst_GetExecutionStatus() == RAMTST_EXECUTION_UNINIT && FlsTst_GetCurrentState() == FLSTST_UNINIT);
+    expect("UNINIT at first", RamTst_GetExecutionStatus() == RAMTST_EXECUTION_UNINIT);
+    expect("flash UNINIT at first", FlsTst_GetCurrentState() == FLSTST_UNINIT);
     no_pointers();
     refused_values();
     spoilt_ram();

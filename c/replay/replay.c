@@ -1,9 +1,9 @@
 /*
  * Replays a script over the C modules, and writes the trace as `mt run` does.
  *
- * The configuration is that of the tables that this program was built with: of the job on standard input only what stands
- * after its line `=====` is read. Words: `early` has the requests of a boundary served as soon as interrupts are released,
- * before what the sequence left is entered.
+ * The configuration is that of the tables that this program was built with: of the job on standard input only what
+ * stands after its line `=====` is read. Words: `early` has the requests of a boundary served as soon as interrupts
+ * are released, before what the sequence left is entered.
  */
 #define _GNU_SOURCE
 #include "FlsTst.h"
@@ -47,8 +47,8 @@ static void put_number(uint32_t number) { snprintf(reply, sizeof reply, "%" PRIu
 
 static void put_text(const char *text) { snprintf(reply, sizeof reply, "%s", text); }
 
-static void put_version(Std_VersionInfoType version) {
-    snprintf(reply, sizeof reply, "%u.%u.%u", version.sw_major_version, version.sw_minor_version, version.sw_patch_version);
+static void put_version(Std_VersionInfoType it) {
+    snprintf(reply, sizeof reply, "%u.%u.%u", it.sw_major_version, it.sw_minor_version, it.sw_patch_version);
 }
 
 static void put_interval(FlsTst_TestResultBgndType last) {
@@ -62,7 +62,8 @@ static void put_details(FlsTst_ErrorDetailsType details) {
     if (details.kind == FLSTST_NO_ERROR)
         put_text("none");
     else
-        snprintf(reply, sizeof reply, "%s %" PRIu32 " %" PRIu32, details.kind == FLSTST_ERROR_BGND ? "bgnd" : "fgnd", details.block, details.word);
+        snprintf(reply, sizeof reply, "%s %" PRIu32 " %" PRIu32, details.kind == FLSTST_ERROR_BGND ? "bgnd" : "fgnd",
+                 details.block, details.word);
 }
 
 static void call_ram(enum service service, uint32_t number) {
@@ -89,12 +90,18 @@ static void call_ram(enum service service, uint32_t number) {
     }
 }
 
+static void start_fgnd(uint32_t number) {
+    runs = 1;
+    Std_ReturnType result = FlsTst_StartFgnd(number);
+    if (result != (error ? E_NOT_OK : E_OK)) fail("StartFgnd answers otherwise than it reports");
+}
+
 static void call_fls(enum service service, uint32_t number) {
     Std_VersionInfoType version;
     switch (service) {
     case FLS_INIT: FlsTst_Init(&FlsTst_Config); break;
     case FLS_DEINIT: FlsTst_DeInit(); break;
-    case FLS_FGND: runs = 1; if (FlsTst_StartFgnd(number) != (error ? E_NOT_OK : E_OK)) fail("StartFgnd answers otherwise than it reports"); break;
+    case FLS_FGND: start_fgnd(number); break;
     case FLS_ABORT: FlsTst_Abort(); break;
     case FLS_SUSPEND: FlsTst_Suspend(); break;
     case FLS_RESUME: FlsTst_Resume(); break;

@@ -3,7 +3,10 @@
 
 #include <string.h>
 
-enum { SPELLING = 1, NUMBER, ADDRESS, WORD_TOO_WIDE, OFFSETS_FALL, TOO_MANY_REQUESTS, TOO_MANY_OPS, NOT_IN_HANDLER, FAULT_REFUSED };
+enum {
+    SPELLING = 1, NUMBER, ADDRESS, WORD_TOO_WIDE, OFFSETS_FALL, TOO_MANY_REQUESTS, TOO_MANY_OPS, NOT_IN_HANDLER,
+    FAULT_REFUSED
+};
 
 /* A line that is read: the token at hand, and the refusal once there is one. */
 struct reader {
@@ -109,8 +112,8 @@ static int spot_below(struct reader *r, uint32_t size, const struct spot *apart,
     const char *text = r->line + r->at, *point = memchr(text, '.', r->size);
     uint64_t word_number, bit_number;
     if (!point) return refuse(r, NUMBER);
-    size_t before = (size_t)(point - text);
-    if (!digits(text, before, &word_number) || !digits(point + 1, r->size - before - 1, &bit_number)) return refuse(r, NUMBER);
+    size_t before = (size_t)(point - text), after = r->size - before - 1;
+    if (!digits(text, before, &word_number) || !digits(point + 1, after, &bit_number)) return refuse(r, NUMBER);
     if (word_number >= size) return refuse(r, ADDRESS);
     if (bit_number >= r->shape.width || (apart && word_number == apart->word)) return refuse(r, FAULT_REFUSED);
     *it = (struct spot){(uint32_t)word_number, (uint32_t)bit_number};

@@ -1,8 +1,8 @@
 /*
  * What the integrator fills in. README.md says of each hook what it has to do.
  *
- * These defaults suit one context without interrupts. MEMTST_RAM and MEMTST_FLASH have no default: they are given here, or as
- * macros of the compiler's command line.
+ * These defaults suit one context without interrupts. MEMTST_RAM and MEMTST_FLASH have no default: they are given
+ * here, or as macros of the compiler's command line.
  */
 #ifndef MEMTST_HOOKS_H
 #define MEMTST_HOOKS_H
@@ -17,7 +17,10 @@
 /* Whether an urgent interrupt waits for the end of the attempt: not 0 if so. */
 #define MEMTST_URGENT() (0u)
 
-/* The addresses of RAM word 0 and flash word 0 of the configuration, as volatile pointers to words of MEMTST_WIDTH bits. */
+/*
+ * The addresses of RAM word 0 and flash word 0 of the configuration, as volatile pointers to words of MEMTST_WIDTH
+ * bits.
+ */
 /* #define MEMTST_RAM ((volatile MemTst_WordType *)0x20000000u) */
 /* #define MEMTST_FLASH ((const volatile MemTst_WordType *)0x08000000u) */
 
@@ -38,7 +41,10 @@ typedef volatile MemTst_WordType *MemTst_BaseType;
 #define RAMTST_DET(service, error) ((void)(service), (void)(error))
 #define FLSTST_DET(service, error) ((void)(service), (void)(error))
 
-/* A slice or a comparison that failed, for the diagnostic event manager: the block, and in flash the first word that differs. */
+/*
+ * A slice or a comparison that failed, for the diagnostic event manager: the block, and in flash the first word that
+ * differs.
+ */
 #define RAMTST_DEM(set, block) ((void)0)
 #define FLSTST_DEM(kind, block, word) ((void)0)
 
