@@ -3,9 +3,11 @@
 ghost use Rattle.std.specs.Prelude.{◌≡◌, ◌≤◌, ◌+◌, ◌∷◌, ◌++◌, [], ℕ, List, All, Ok, length};
 ghost use Rattle.mt_window.specs.declared.log.Entry.{Entry};
 ghost use Rattle.mt_word.specs.declared.Width.TheVariants.{W16};
+ghost use Rattle.mt_conf.specs.Accepted.{IsAcceptedConfig};
 ghost use Rattle.mt_text.specs.Accepted.{IsAccepted};
 ghost use Rattle.mt_text.specs.Canonical.{canonical};
 ghost use Rattle.mt_text.specs.Lines.{line_of};
+ghost use Rattle.mt_gen.specs.Config.{job_config};
 ghost use Rattle.mt_gen.specs.Numbers.{next};
 ghost use Rattle.mt_gen.specs.Script.{job_shape, drawn_line, lines_behind, script};
 ghost use Rattle.mt_gen.specs.Summary.{summary_of, with_entry};
@@ -16,6 +18,11 @@ use mt_text::{canonical_lines_spell_themselves, reading_is_spelling};
 /// A script has 20,000 lines, whatever its number is.
 pub fn scripts_have_20000_lines()
     ensures { (number : ℕ) → length (script number) ≡ 20000 }
+{}
+
+/// The configuration of every generated job breaks no rule.
+pub fn job_config_is_accepted()
+    ensures { IsAcceptedConfig job_config }
 {}
 
 /// Each line of a script is accepted for the job's memory. Its canonical text has at most 34 bytes, and a reader takes it

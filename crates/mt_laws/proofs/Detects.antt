@@ -66,7 +66,7 @@ found shape fault set cells p laws caught low r i = of i.pass.phase
         absurd (omega (arith, none, one))
 
 -- a caught slice is one of an accepted set
-caught_in : (shape : Shape) (z : Setting) (fault : Fault) (r : RamTst) (p : Piece) → IsWithinLimits shape → All (IsAcceptedSet shape) z.config.sets → r.setting ≡ z → IsCaught (set_of r) p fault → Caught shape fault (set_of r) p
+pub caught_in : (shape : Shape) (z : Setting) (fault : Fault) (r : RamTst) (p : Piece) → IsWithinLimits shape → All (IsAcceptedSet shape) z.config.sets → r.setting ≡ z → IsCaught (set_of r) p fault → Caught shape fault (set_of r) p
 caught_in shape z fault r p limits all setting c =
     let set = set_of r in
     let taken : IsTaken shape set = subst (λ (s : Setting). IsTaken shape (set_at s.config.sets r.selected)) (sym setting) (set_taken shape z.config.sets r.selected all) in
@@ -132,11 +132,11 @@ some_line shape z fault p m [] laws caught low u =
 
 -- ---- lists
 
-All-front : {X : Type 0} (P : X → Type 0) (a b : List X) → All P (a ++ b) → All P a
+pub All-front : {X : Type 0} (P : X → Type 0) (a b : List X) → All P (a ++ b) → All P a
 All-front P [] b all = All-nil P
 All-front P (x ∷ a) b all = All-cons P x a (All-head P x (a ++ b) all) (All-front P a b (All-tail P x (a ++ b) all))
 
-All-behind : {X : Type 0} (P : X → Type 0) (a b : List X) → All P (a ++ b) → All P b
+pub All-behind : {X : Type 0} (P : X → Type 0) (a b : List X) → All P (a ++ b) → All P b
 All-behind P [] b all = all
 All-behind P (x ∷ a) b all = All-behind P a b (All-tail P x (a ++ b) all)
 

@@ -20,3 +20,9 @@ mod RamCalm
 mod RamAlarms
 mod FlsCalm
 mod FlsAlarms
+mod Unproven
+mod UnprovenRows
+mod UnprovenTicks
+mod UnprovenTests
+mod UnprovenLines
+mod Evidences

@@ -23,11 +23,11 @@ use Rattle.mt_blocks.specs.Accepted.{spans_of, IsAcceptedSet}
 use Rattle.mt_ram.specs.declared.state.State.{State}
 use Rattle.mt_ram.specs.declared.state.State.TheVariants.{Uninit, Stopped, Running, Suspended, Full, Partial}
 use Rattle.mt_ram.specs.State.{RamTst, set_of, spans_in}
-use Rattle.mt_ram.specs.Table.{RamCell, MainFunction, RunFullTest, RunPartialTest, cell, testing, in_state}
+use Rattle.mt_ram.specs.Table.{RamCell, ram_table, MainFunction, RunFullTest, RunPartialTest, cell, testing, in_state}
 use Rattle.mt_ram.specs.Event.{job_in, job_of, of_pass, of_test, ticking, full_test, partial_test}
 use Rattle.mt_ram.specs.Inner.Sets.{SlicesAreSound}
 use Rattle.mt_laws.proofs.Pieces.{IsOf, block_there, from-of, pass-of, pieces-of}
-use Rattle.mt_laws.proofs.Scenes.{Handlers, HasBoard}
+use Rattle.mt_laws.proofs.Scenes.{Handlers, NothingIsWrong, HasBoard}
 use Rattle.mt_laws.proofs.SceneEvents.{Attempts, Enters}
 use Rattle.mt_laws.proofs.PassRows.{IsOn, row-on}
 
@@ -185,29 +185,32 @@ part_keeps r block (Partial back) = same_set
 
 -- ---- the running calls
 
-pub tick_enters : AttemptLaws → (h : Handlers) (set : ParamSet) (cells : ℕ) → IsTaken h.shape set → Enters h ticking (IsOn set cells) (IsSlice set)
-tick_enters laws h set cells taken = record {
+pub tick_enters : AttemptLaws → (h : Handlers) (set : ParamSet) (cells : ℕ) → IsTaken h.shape set → NothingIsWrong h → Enters h ticking (IsOn set cells) (IsSlice set)
+tick_enters laws h set cells taken replies = record {
   attempts = pass_attempts laws h set cells taken;
   row = λ r call on. row-on set cells r call on;
   work = λ r on. of_set set cells h.shape r (work_in (cell r MainFunction r.state)) taken on (tick_work r r.state);
   inside = λ r on. (tick_keeps r r.state set cells r on).0;
   back = λ o r on. (tick_keeps o o.state set cells r on).1;
+  right = λ r call. replies call (ram_table.reply r call);
 }
 
-pub full_enters : AttemptLaws → (h : Handlers) (set : ParamSet) (cells : ℕ) → IsTaken h.shape set → Enters h full_test (IsOn set cells) (IsSlice set)
-full_enters laws h set cells taken = record {
+pub full_enters : AttemptLaws → (h : Handlers) (set : ParamSet) (cells : ℕ) → IsTaken h.shape set → NothingIsWrong h → Enters h full_test (IsOn set cells) (IsSlice set)
+full_enters laws h set cells taken replies = record {
   attempts = test_attempts laws h set cells taken;
   row = λ r call on. row-on set cells r call on;
   work = λ r on. of_set set cells h.shape r (work_in (cell r RunFullTest r.state)) taken on (full_work r r.state);
   inside = λ r on. (full_keeps r r.state set cells r on).0;
   back = λ o r on. (full_keeps o o.state set cells r on).1;
+  right = λ r call. replies call (ram_table.reply r call);
 }
 
-pub part_enters : AttemptLaws → (h : Handlers) (block : ℕ) (set : ParamSet) (cells : ℕ) → IsTaken h.shape set → Enters h (partial_test block) (IsOn set cells) (IsSlice set)
-part_enters laws h block set cells taken = record {
+pub part_enters : AttemptLaws → (h : Handlers) (block : ℕ) (set : ParamSet) (cells : ℕ) → IsTaken h.shape set → NothingIsWrong h → Enters h (partial_test block) (IsOn set cells) (IsSlice set)
+part_enters laws h block set cells taken replies = record {
   attempts = test_attempts laws h set cells taken;
   row = λ r call on. row-on set cells r call on;
   work = λ r on. of_set set cells h.shape r (work_in (cell r (RunPartialTest block) r.state)) taken on (part_work r block r.state);
   inside = λ r on. (part_keeps r block r.state set cells r on).0;
   back = λ o r on. (part_keeps o block o.state set cells r on).1;
+  right = λ r call. replies call (ram_table.reply r call);
 }

@@ -32,7 +32,7 @@ use Rattle.mt_laws.specs.Memory.{handled, inner_replies, own_replies}
 use Rattle.mt_laws.specs.Detection.{AcceptsInHandler, counts}
 use Rattle.mt_text.specs.declared.line.Event.TheVariants as event
 use Rattle.mt_laws.proofs.Memories.{inner-append}
-use Rattle.mt_laws.proofs.Scenes.{Handlers, HasBoard, IsSpoiled, Goes, Rows, Stands}
+use Rattle.mt_laws.proofs.Scenes.{Handlers, Watches, HasBoard, IsSpoiled, Goes, Rows, Stands}
 use Rattle.mt_laws.proofs.SceneEvents.{fresh, event-goes}
 use Rattle.mt_laws.proofs.PassRows.{IsOn, row-on, InSomePass, InTick, is_stop, is_stop_or_suspend, row-pass, row-tick}
 use Rattle.mt_laws.proofs.PassEvents.{Caught}
@@ -61,7 +61,7 @@ longer_pass set p cells left less r more i =
 
 -- what handlers do in a line, where these calls are excluded
 abbrev pub handlers_of : Board → List Request → (HandlerCall → Bool) → Handlers
-handlers_of b requests bad = record { shape = b.shape; fault = b.fault; all = handled requests; bad = bad }
+handlers_of b requests bad = record { shape = b.shape; fault = b.fault; all = handled requests; bad = bad; wrong = λ call reply. false }
 
 -- an event that is spoiled accepted one of these calls
 accepts : (b : Board) (requests : List Request) (bad : HandlerCall → Bool) (log : List Entry) (own : Reply) (done : List HandlerOp) → handled requests ≡ done ++ []
@@ -126,10 +126,11 @@ ended call fault set cells less p m requests bad present g none = record { prese
     of (inl z) = absurd (none z.call z.bad (accepts m.board requests bad (event_of (events_of call) (begun m.board m.modules.ram requests)).after.log _ g.done g.rest z))
     of (inr i) = i
 
-pass_rows : (h : Handlers) (set : ParamSet) (p : Piece) (cells left : ℕ) → h.bad ≡ is_stop → Rows h ram_table (IsOn set cells) (InSomePass set p cells left)
+pass_rows : (h : Handlers) (set : ParamSet) (p : Piece) (cells left : ℕ) → Watches h is_stop → Rows h ram_table (IsOn set cells) (InSomePass set p cells left)
 pass_rows h set p cells left bad = record {
   holds = λ r call on. row-on set cells r call on;
-  row = λ r call i. subst (λ (f : HandlerCall → Bool). ((f call ≡ true) × (ram_table.reply r call ≡ reply.Done)) ⊎ InSomePass set p cells left (ram_table.next r call)) (sym bad) (row-pass set p cells left r call i);
+  row = λ r call i. subst (λ (f : HandlerCall → Bool). ((f call ≡ true) × (ram_table.reply r call ≡ reply.Done)) ⊎ InSomePass set p cells left (ram_table.next r call)) (sym bad.calls) (row-pass set p cells left r call i);
+  right = λ r call i. bad.replies call (ram_table.reply r call);
 }
 
 -- a test is under way between two ticks
@@ -139,13 +140,13 @@ pub part_event : (fault : Fault) (set : ParamSet) (cells left : ℕ) (p : Piece)
 part_event fault set cells left p m block requests k board ops h none =
     let hs = handlers_of m.board requests is_stop in
     let s : Scene RamTst = begun m.board m.modules.ram requests in
-    let rows = pass_rows hs set p cells left refl in
+    let rows = pass_rows hs set p cells left (record { calls = refl; replies = λ c reply. refl }) in
     let i = h.pass in
     let first : InSomePass set p cells left ((events_of (rams.Partial block)).cleared m.modules.ram) = record { at = i.at; pass = record { valid = i.pass.valid; state = i.pass.state; phase = i.pass.phase } } in
     ended (rams.Partial block) fault set cells left p m requests is_stop h.present
     (event-goes k.laws.memory hs (events_of (rams.Partial block)) (IsOn set cells) (InSomePass set p cells left) (InSomePass set p cells left) rows rows s
     (begin_event (rams.Partial block) set cells m requests is_stop (InSomePass set p cells left) board ops h.on first)
-    (λ w. part_middle k.laws k.begin hs fault set cells left p k.caught h.present refl block (opened (events_of (rams.Partial block)) s) w))
+    (λ w. part_middle k.laws k.begin hs fault set cells left p k.caught h.present (record { calls = refl; replies = λ c reply. refl }) block (opened (events_of (rams.Partial block)) s) w))
     (λ c bad accepted. none (subst (λ (x : HandlerCall). AcceptsInHandler (running_ram (rams.Partial block) m requests) x) (is_the_stop c bad) accepted))
 
 pub full_event : (fault : Fault) (set : ParamSet) (cells left : ℕ) (p : Piece) (m : Machine) (requests : List Request) → Hunt m.board.shape fault set p cells
@@ -154,13 +155,13 @@ pub full_event : (fault : Fault) (set : ParamSet) (cells left : ℕ) (p : Piece)
 full_event fault set cells left p m requests k board ops h none =
     let hs = handlers_of m.board requests is_stop in
     let s : Scene RamTst = begun m.board m.modules.ram requests in
-    let rows = pass_rows hs set p cells left refl in
+    let rows = pass_rows hs set p cells left (record { calls = refl; replies = λ c reply. refl }) in
     let i = h.pass in
     let first : InSomePass set p cells left ((events_of rams.Full).cleared m.modules.ram) = record { at = i.at; pass = record { valid = i.pass.valid; state = i.pass.state; phase = i.pass.phase } } in
     ended rams.Full fault set cells left p m requests is_stop h.present
     (event-goes k.laws.memory hs (events_of rams.Full) (IsOn set cells) (InSomePass set p cells left) (InSomePass set p cells left) rows rows s
     (begin_event rams.Full set cells m requests is_stop (InSomePass set p cells left) board ops h.on first)
-    (λ w. full_middle k.laws hs fault set cells left p k.caught (opened (events_of rams.Full) s) w))
+    (λ w. full_middle k.laws hs fault set cells left p k.caught (λ c reply. refl) (opened (events_of rams.Full) s) w))
     (λ c bad accepted. none (subst (λ (x : HandlerCall). AcceptsInHandler (running_ram rams.Full m requests) x) (is_the_stop c bad) accepted))
 
 -- ---- a tick
@@ -213,12 +214,12 @@ tick_event fault set cells left less p m requests k board ops h counted no_stop 
     let here = subst (λ (l : List Reply). left ≤ counts event.TickRam l + less) split counted in
     omega (arith, here, fewer_counts (own_replies log) own)) in
     let first : InTick set p cells left (ticking.cleared m.modules.ram) = record { at = i.at; pass = record { valid = i.pass.valid; state = i.pass.state; phase = i.pass.phase }; unmarked = refl } in
-    let tick_rows : Rows hs ram_table (IsOn set cells) (InTick set p cells left) = record { holds = λ r call on. row-on set cells r call on; row = λ r call q. row-tick set p cells left r call q } in
-    let end_rows : Rows hs ram_table (IsOn set cells) (InSomePass set p cells less) = record { holds = λ r call on. row-on set cells r call on; row = λ r call q. wider r call (row-pass set p cells less r call q) } in
+    let tick_rows : Rows hs ram_table (IsOn set cells) (InTick set p cells left) = record { holds = λ r call on. row-on set cells r call on; row = λ r call q. row-tick set p cells left r call q; right = λ r call q. refl } in
+    let end_rows : Rows hs ram_table (IsOn set cells) (InSomePass set p cells less) = record { holds = λ r call on. row-on set cells r call on; row = λ r call q. wider r call (row-pass set p cells less r call q); right = λ r call q. refl } in
     ended rams.Tick fault set cells less p m requests is_stop_or_suspend h.present
     (event-goes k.laws.memory hs ticking (IsOn set cells) (InTick set p cells left) (InSomePass set p cells less) tick_rows end_rows s
     (begin_event rams.Tick set cells m requests is_stop_or_suspend (InTick set p cells left) board ops h.on first)
-    (λ w. tick_middle k.laws hs fault set cells left less p k.caught h.present refl k.low o (λ x e. let one = one_count own in omega (arith, most, one)) (λ x e. rests x e most) w))
+    (λ w. tick_middle k.laws hs fault set cells left less p k.caught h.present (record { calls = refl; replies = λ c reply. refl }) k.low o (λ x e. let one = one_count own in omega (arith, most, one)) (λ x e. rests x e most) w))
     none
   where
     wider : (r : RamTst) (call : HandlerCall) → ((is_stop call ≡ true) × (ram_table.reply r call ≡ reply.Done)) ⊎ InSomePass set p cells less (ram_table.next r call)

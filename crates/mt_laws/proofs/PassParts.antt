@@ -30,7 +30,7 @@ use Rattle.mt_ram.specs.Table.{RamCell, RunFullTest, RunPartialTest, cell, testi
 use Rattle.mt_ram.specs.Event.{job_of, with_result, of_test, full_test, partial_test}
 use Rattle.mt_laws.proofs.Pieces.{pieces-of}
 use Rattle.mt_laws.proofs.Phases.{IsBehind}
-use Rattle.mt_laws.proofs.Scenes.{Handlers, HasBoard, Rows, Stands}
+use Rattle.mt_laws.proofs.Scenes.{Handlers, NothingIsWrong, Watches, HasBoard, Rows, Stands}
 use Rattle.mt_laws.proofs.SceneEvents.{Passes, Walks, weakened, with_callee, slices-walk, any-middle}
 use Rattle.mt_laws.proofs.PassRows.{IsOn, row-on, InPass, InSomePass, is_stop}
 use Rattle.mt_laws.proofs.PassEvents.{Caught, IsSlice, caught_taken, detects, test_attempts, full_enters, part_enters}
@@ -101,14 +101,14 @@ part_passes : PassLaws → (h : Handlers) (fault : Fault) (set : ParamSet) (cell
     → Passes h of_test (IsOn set cells) x (λ r failed. AtPart set p z Before (x ∷ more) r failed) (λ r failed. AtPart set p z Before more r failed)
 part_passes laws h fault set cells p caught present z Before x more = record {
   stopped = λ r failed a e. absurd (not_both e refl);
-  takes = λ may r failed b v on board a e. part_slice laws h fault set cells p caught present z Before x more may r failed b v on board a e;
+  takes = λ may r failed b v on board a goes e. part_slice laws h fault set cells p caught present z Before x more may r failed b v on board a e;
   ends = λ r failed b a e. absurd (some_none (laws.end b (job_of r x) x.slice).1 e);
 }
 
 -- ---- the whole test
 
 -- what a call with a cell leaves before the requests left
-abbrev test_scene : Scene RamTst → RamCell → Scene RamTst
+abbrev pub test_scene : Scene RamTst → RamCell → Scene RamTst
 test_scene o c =
     scene ((slices of_test (work_in c) (started false (scene o.board (inside_of c o.callee) o.log))).scene.board)
     (back_from c ((slices of_test (work_in c) (started false (scene o.board (inside_of c o.callee) o.log))).scene.callee))
@@ -128,7 +128,7 @@ part_back set p cells left z valid first r failed a = record { at = z.at; pass =
     of (inl kept) (inr behind) = inl (record { result = behind.result; kept = λ same below. a.kept ∙ kept same below })
 
 -- the test of a block that is there
-block_test : PassLaws → BlocksBegin → (h : Handlers) (fault : Fault) (set : ParamSet) (cells left : ℕ) (p : Piece) → Caught h.shape fault set p → h.fault ≡ Some fault → h.bad ≡ is_stop
+block_test : PassLaws → BlocksBegin → (h : Handlers) (fault : Fault) (set : ParamSet) (cells left : ℕ) (p : Piece) → Caught h.shape fault set p → h.fault ≡ Some fault → Watches h is_stop
     → (block : ℕ) → block < length set.blocks → (o : Scene RamTst) → Stands h (IsOn set cells) (InSomePass set p cells left) o → (x : Position) → InPass set p cells left x o.callee → o.callee.state ≡ Suspended x
     → Stands h (IsOn set cells) (InSomePass set p cells left) (test_scene o (Runs (pieces set.atomic block (span_at (spans_of set.blocks) block)) (in_state (Partial (Some x))) (in_state (Suspended x))))
 block_test laws begin h fault set cells left p caught present bad block there o w x i waits =
@@ -142,7 +142,7 @@ block_test laws begin h fault set cells left p caught present bad block there o 
     let Before = Contains (from_place K spans x) p × (ticks cells (from_place K spans x) ≤ left) in
     let inside = in_state (Partial (Some x)) r in
     let rows : (l : List Piece) (failed : Bool) → Rows h ram_table (IsOn set cells) (λ q. AtPart set p z Before l q failed) =
-    λ l failed. record { holds = λ q call on. row-on set cells q call on; row = λ q call a. subst (λ (f : HandlerCall → Bool). ((f call ≡ true) × (ram_table.reply q call ≡ Done)) ⊎ AtPart set p z Before l (ram_table.next q call) failed) (sym bad) (part_row set p z Before l failed q call a) } in
+    λ l failed. record { holds = λ q call on. row-on set cells q call on; row = λ q call a. subst (λ (f : HandlerCall → Bool). ((f call ≡ true) × (ram_table.reply q call ≡ Done)) ⊎ AtPart set p z Before l (ram_table.next q call) failed) (sym bad.calls) (part_row set p z Before l failed q call a); right = λ q call a. bad.replies call (ram_table.reply q call) } in
     let first : AtPart set p z Before L inside false = record {
       place = Some (block_start block);
       split = sym begins.block;
@@ -171,7 +171,7 @@ block_test laws begin h fault set cells left p caught present bad block there o 
     held (inr before) = inr before
 
 -- a partial test in a suspended pass, of a block that is there or not
-suspended_test : PassLaws → BlocksBegin → (h : Handlers) (fault : Fault) (set : ParamSet) (cells left : ℕ) (p : Piece) → Caught h.shape fault set p → h.fault ≡ Some fault → h.bad ≡ is_stop
+suspended_test : PassLaws → BlocksBegin → (h : Handlers) (fault : Fault) (set : ParamSet) (cells left : ℕ) (p : Piece) → Caught h.shape fault set p → h.fault ≡ Some fault → Watches h is_stop
     → (block : ℕ) (o : Scene RamTst) → Stands h (IsOn set cells) (InSomePass set p cells left) o → (x : Position) → InPass set p cells left x o.callee → o.callee.state ≡ Suspended x → IsOn set cells o.callee
     → Stands h (IsOn set cells) (InSomePass set p cells left) (test_scene o (testing o.callee block (Partial (Some x)) (Suspended x)))
 suspended_test laws begin h fault set cells left p caught present bad block o w x i waits on =
@@ -184,7 +184,7 @@ suspended_test laws begin h fault set cells left p caught present bad block o w 
     of true e = block_test laws begin h fault set cells left p caught present bad block (grind (arith, nat_tests)) o w x i waits
     of false e = w
 
-pub part_middle : PassLaws → BlocksBegin → (h : Handlers) (fault : Fault) (set : ParamSet) (cells left : ℕ) (p : Piece) → Caught h.shape fault set p → h.fault ≡ Some fault → h.bad ≡ is_stop
+pub part_middle : PassLaws → BlocksBegin → (h : Handlers) (fault : Fault) (set : ParamSet) (cells left : ℕ) (p : Piece) → Caught h.shape fault set p → h.fault ≡ Some fault → Watches h is_stop
     → (block : ℕ) (o : Scene RamTst) → Stands h (IsOn set cells) (InSomePass set p cells left) o
     → Stands h (IsOn set cells) (InSomePass set p cells left) (returned (partial_test block) o (ran (partial_test block) o).scene)
 part_middle laws begin h fault set cells left p caught present bad block o w = of (spoiled_or h (IsOn set cells) (InSomePass set p cells left) o w)
@@ -200,13 +200,13 @@ part_middle laws begin h fault set cells left p caught present bad block o w = o
     of (inl z) =
         let end = test_scene o (cell o.callee (RunPartialTest block) o.callee.state) in
         weakened h (IsOn set cells) (λ r. ⊥) (InSomePass set p cells left) end (λ q. absurd q)
-        (any-middle laws.memory h (partial_test block) (IsOn set cells) (λ r. ⊥) (IsSlice set) ⊥ (part_enters laws.attempts h block set cells (caught_taken h.shape fault set p caught)) o (λ q. q) z)
+        (any-middle laws.memory h (partial_test block) (IsOn set cells) (λ r. ⊥) (IsSlice set) ⊥ (part_enters laws.attempts h block set cells (caught_taken h.shape fault set p caught) bad.replies) o (λ q. q) z)
     of (inr i) = by_state i i.pass.state
 
 -- a full test is refused in a pass
-pub full_middle : PassLaws → (h : Handlers) (fault : Fault) (set : ParamSet) (cells left : ℕ) (p : Piece) → Caught h.shape fault set p → (o : Scene RamTst) → Stands h (IsOn set cells) (InSomePass set p cells left) o
+pub full_middle : PassLaws → (h : Handlers) (fault : Fault) (set : ParamSet) (cells left : ℕ) (p : Piece) → Caught h.shape fault set p → NothingIsWrong h → (o : Scene RamTst) → Stands h (IsOn set cells) (InSomePass set p cells left) o
     → Stands h (IsOn set cells) (InSomePass set p cells left) (returned full_test o (ran full_test o).scene)
-full_middle laws h fault set cells left p caught o w = of (spoiled_or h (IsOn set cells) (InSomePass set p cells left) o w)
+full_middle laws h fault set cells left p caught replies o w = of (spoiled_or h (IsOn set cells) (InSomePass set p cells left) o w)
   where
     by_state : (i : InSomePass set p cells left o.callee) → (o.callee.state ≡ Running i.at) ⊎ (o.callee.state ≡ Suspended i.at)
         → Stands h (IsOn set cells) (InSomePass set p cells left) (test_scene o (cell o.callee RunFullTest o.callee.state))
@@ -217,5 +217,5 @@ full_middle laws h fault set cells left p caught o w = of (spoiled_or h (IsOn se
     of (inl z) =
         let end = test_scene o (cell o.callee RunFullTest o.callee.state) in
         weakened h (IsOn set cells) (λ r. ⊥) (InSomePass set p cells left) end (λ q. absurd q)
-        (any-middle laws.memory h full_test (IsOn set cells) (λ r. ⊥) (IsSlice set) ⊥ (full_enters laws.attempts h set cells (caught_taken h.shape fault set p caught)) o (λ q. q) z)
+        (any-middle laws.memory h full_test (IsOn set cells) (λ r. ⊥) (IsSlice set) ⊥ (full_enters laws.attempts h set cells (caught_taken h.shape fault set p caught) replies) o (λ q. q) z)
     of (inr i) = by_state i i.pass.state

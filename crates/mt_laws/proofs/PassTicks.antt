@@ -33,7 +33,7 @@ use Rattle.mt_blocks.specs.Inner.Ticks.{GroupsTakeATick}
 use Rattle.mt_ram.specs.Inner.Sets.{SetsAreCut}
 use Rattle.mt_laws.proofs.Pieces.{block_there, start-valid, from-of}
 use Rattle.mt_laws.proofs.Phases.{IsBehind, results_by, Knows, reaches, goes_on}
-use Rattle.mt_laws.proofs.Scenes.{MemoryLaws, Handlers, HasBoard, IsSpoiled, Rows, Stands}
+use Rattle.mt_laws.proofs.Scenes.{MemoryLaws, Handlers, Watches, HasBoard, IsSpoiled, Rows, Stands}
 use Rattle.mt_laws.proofs.SceneEvents.{Passes, Walks, weakened, slices-walk, any-middle}
 use Rattle.mt_laws.proofs.PassRows.{Turn, Stays, Stops, Suspends, Resumes, turn_running, IsOn, row-on, InSomePass, InTick, is_stop_or_suspend}
 use Rattle.mt_laws.proofs.PassEvents.{AttemptLaws, Caught, IsSlice, caught_taken, detects, pass_attempts, tick_enters}
@@ -157,7 +157,7 @@ tick_passes : PassLaws → (h : Handlers) (fault : Fault) (set : ParamSet) (cell
     → Passes h of_pass (IsOn set cells) x (λ r failed. AtTick set p rest Before (x ∷ more) r) (λ r failed. AtTick set p rest Before more r)
 tick_passes laws h fault set cells p caught present rest Before x more = record {
   stopped = λ r failed a e. absurd (not_both e a.unmarked);
-  takes = λ may r failed b v on board a e. tick_slice laws h fault set cells p caught present rest Before x more may r b v on board a e;
+  takes = λ may r failed b v on board a goes e. tick_slice laws h fault set cells p caught present rest Before x more may r b v on board a e;
   ends = λ r failed b a e. absurd (some_none (laws.end b (job_of r x) x.slice).1 e);
 }
 
@@ -190,14 +190,14 @@ behind_group set p cells left rest Before is some low r a = of a.place refl
         record { at = y; pass = record { valid = subst (λ (q : Option Position). IfSome q (IsValid set.atomic (spans_of set.blocks))) e a.valid; state = inl (a.state ∙ ap (λ (q : Option Position). Running (or_start q)) e); phase = going y e a.phase } }
 
 -- what a tick leaves before the requests left, by the state just after boundary 0
-abbrev tick_scene : Scene RamTst → State → Scene RamTst
+abbrev pub tick_scene : Scene RamTst → State → Scene RamTst
 tick_scene o s =
     scene ((slices of_pass (work_in (cell o.callee MainFunction s)) (started false (scene o.board (inside_of (cell o.callee MainFunction s) o.callee) o.log))).scene.board)
     (back_from (cell o.callee MainFunction s) ((slices of_pass (work_in (cell o.callee MainFunction s)) (started false (scene o.board (inside_of (cell o.callee MainFunction s) o.callee) o.log))).scene.callee))
     ((slices of_pass (work_in (cell o.callee MainFunction s)) (started false (scene o.board (inside_of (cell o.callee MainFunction s) o.callee) o.log))).scene.log)
 
 -- one where the pass runs
-running_tick : PassLaws → (h : Handlers) (fault : Fault) (set : ParamSet) (cells left less : ℕ) (p : Piece) → Caught h.shape fault set p → h.fault ≡ Some fault → h.bad ≡ is_stop_or_suspend → set.atomic ≤ cells → left ≤ less + 1
+running_tick : PassLaws → (h : Handlers) (fault : Fault) (set : ParamSet) (cells left less : ℕ) (p : Piece) → Caught h.shape fault set p → h.fault ≡ Some fault → Watches h is_stop_or_suspend → set.atomic ≤ cells → left ≤ less + 1
     → (o : Scene RamTst) → Stands h (IsOn set cells) (InTick set p cells left) o → (i : InTick set p cells left o.callee) → o.callee.state ≡ Running i.at → IsOn set cells o.callee
     → Stands h (IsOn set cells) (InSomePass set p cells less) (tick_scene o (Running i.at))
 running_tick laws h fault set cells left less p caught present bad low more o w i runs on =
@@ -213,7 +213,7 @@ running_tick laws h fault set cells left less p caught present bad low more o w 
     let fewer : Before → ticks cells rest ≤ less = λ before. omega (arith, before, one, more) in
     let At = λ (l : List Piece) (q : RamTst) (failed : Bool). AtTick set p rest Before l q in
     let rows : (l : List Piece) (failed : Bool) → Rows h ram_table (IsOn set cells) (λ q. AtTick set p rest Before l q) =
-    λ l failed. record { holds = λ q call z. row-on set cells q call z; row = λ q call a. subst (λ (f : HandlerCall → Bool). ((f call ≡ true) × (ram_table.reply q call ≡ Done)) ⊎ AtTick set p rest Before l (ram_table.next q call)) (sym bad) (tick_row set p rest Before l q call a) } in
+    λ l failed. record { holds = λ q call z. row-on set cells q call z; row = λ q call a. subst (λ (f : HandlerCall → Bool). ((f call ≡ true) × (ram_table.reply q call ≡ Done)) ⊎ AtTick set p rest Before l (ram_table.next q call)) (sym bad.calls) (tick_row set p rest Before l q call a); right = λ q call a. bad.replies call (ram_table.reply q call) } in
     let first : AtTick set p rest Before (take n L) r = record {
       place = Some i.at;
       split = whole;
@@ -247,11 +247,11 @@ pub spoiled_or : (h : Handlers) (I P : RamTst → Type 0) (s : Scene RamTst) →
 spoiled_or h I P s g = of g.callee
   where
     of : IsSpoiled h g.done s.log ⊎ P s.callee → Stands h I (λ r. ⊥) s ⊎ P s.callee
-    of (inl z) = inl (record { done = g.done; rest = g.rest; entered = g.entered; board = g.board; ops = g.ops; holds = g.holds; callee = inl z })
+    of (inl z) = inl (record { done = g.done; rest = g.rest; entered = g.entered; board = g.board; ops = g.ops; holds = g.holds; callee = inl z; told = g.told })
     of (inr p) = inr p
 
 -- A tick, where the pass runs just after boundary 0 or is suspended. What is still to come takes one tick less, where it runs.
-pub tick_middle : PassLaws → (h : Handlers) (fault : Fault) (set : ParamSet) (cells left less : ℕ) (p : Piece) → Caught h.shape fault set p → h.fault ≡ Some fault → h.bad ≡ is_stop_or_suspend → set.atomic ≤ cells
+pub tick_middle : PassLaws → (h : Handlers) (fault : Fault) (set : ParamSet) (cells left less : ℕ) (p : Piece) → Caught h.shape fault set p → h.fault ≡ Some fault → Watches h is_stop_or_suspend → set.atomic ≤ cells
     → (o : Scene RamTst) → ((x : Position) → o.callee.state ≡ Running x → left ≤ less + 1) → ((x : Position) → o.callee.state ≡ Suspended x → left ≤ less)
     → Stands h (IsOn set cells) (InTick set p cells left) o → Stands h (IsOn set cells) (InSomePass set p cells less) (returned ticking o (ran ticking o).scene)
 tick_middle laws h fault set cells left less p caught present bad low o runs waits w = of (spoiled_or h (IsOn set cells) (InTick set p cells left) o w)
@@ -269,5 +269,5 @@ tick_middle laws h fault set cells left less p caught present bad low o runs wai
     of (inl z) =
         let end = tick_scene o o.callee.state in
         weakened h (IsOn set cells) (λ r. ⊥) (InSomePass set p cells less) end (λ q. absurd q)
-        (any-middle laws.memory h ticking (IsOn set cells) (λ r. ⊥) (IsSlice set) ⊥ (tick_enters laws.attempts h set cells (caught_taken h.shape fault set p caught)) o (λ q. q) z)
+        (any-middle laws.memory h ticking (IsOn set cells) (λ r. ⊥) (IsSlice set) ⊥ (tick_enters laws.attempts h set cells (caught_taken h.shape fault set p caught) bad.replies) o (λ q. q) z)
     of (inr i) = by_state i i.pass.state

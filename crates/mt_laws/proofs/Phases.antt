@@ -73,12 +73,12 @@ pub record Knows (K : ℕ) (spans : List Span) (at x : Position) (v : Verdict) :
   pub fails : x ≡ at → v ≡ Fail
 
 -- behind the caught slice, or at it
-settled : (K : ℕ) (spans : List Span) (at x : Position) (v : Verdict) (results : List TestResult) (failed : Bool) → Knows K spans at x v → IsBehind at x results failed
+pub settled : (K : ℕ) (spans : List Span) (at x : Position) (v : Verdict) (failed : Bool) → Knows K spans at x v → (x.block ≡ at.block → at.offset < x.offset → failed ≡ true)
     → x.block ≡ at.block → at.offset < x.offset + K → (failed ≡ true) ⊎ (v ≡ Fail)
-settled K spans at x v results failed k behind same h = of (ltb at.offset x.offset) refl
+settled K spans at x v failed k kept same h = of (ltb at.offset x.offset) refl
   where
     of : (below : Bool) → ltb at.offset x.offset ≡ below → (failed ≡ true) ⊎ (v ≡ Fail)
-    of true e = inl (behind.kept same (grind (arith, nat_tests)))
+    of true e = inl (kept same (grind (arith, nat_tests)))
     of false e =
         let low = not_before K at x k.at_valid.multiple k.valid.multiple h in
         let equal : x.offset ≡ at.offset = let high : x.offset ≤ at.offset = grind (arith, nat_tests) in omega (arith, low, high) in
@@ -115,7 +115,7 @@ set_other results i j new other e =
     ∙ ap (λ (r : TestResult). Some r) (get_or-set_other results i j new NotTested other ∙ get_or_from_slice_get results j NotOk NotTested e)
 
 -- the next slice behind one that failed, or before which one failed
-kept_next : (whole : Bool) (K : ℕ) (spans : List Span) (at x : Position) (v : Verdict) (failed : Bool)
+pub kept_next : (whole : Bool) (K : ℕ) (spans : List Span) (at x : Position) (v : Verdict) (failed : Bool)
     → (x.block ≡ at.block → at.offset < x.offset + K → (failed ≡ true) ⊎ (v ≡ Fail))
     → (or_start (next_in whole K spans x)).block ≡ at.block → at.offset < (or_start (next_in whole K spans x)).offset → failed_after v failed (piece_at K spans x).last ≡ true
 kept_next whole K spans at x v failed h same below = of (next_stands whole K spans x)
@@ -146,7 +146,7 @@ pub goes_on : (whole : Bool) (K : ℕ) (spans : List Span) (at x : Position) (re
     → IsBehind at (or_start (next_in whole K spans x)) (results_by results (piece_at K spans x) v failed) (failed_after v failed (piece_at K spans x).last)
 goes_on whole K spans at x results v failed k behind = record {
   result = of (cases at.block x.block);
-  kept = λ same below. kept_next whole K spans at x v failed (settled K spans at x v results failed k behind) same below;
+  kept = λ same below. kept_next whole K spans at x v failed (settled K spans at x v failed k behind.kept) same below;
 }
   where
     cases : (i j : ℕ) → (i ≡ j) ⊎ (i ≢ j)
@@ -165,7 +165,7 @@ goes_on whole K spans at x results v failed k behind = record {
         let length_is : span_len (span_at spans x.block) ≡ span_len (span_at spans at.block) = ap (λ (i : ℕ). span_len (span_at spans i)) same in
         let ends : leb (span_len (span_at spans x.block) - x.offset) K ≡ true = e in
         let low : span_len (span_at spans x.block) - x.offset ≤ K = grind (arith, nat_tests) in
-        settled K spans at x v results failed k behind same (omega (arith, low, length_is, k.at_valid.offset))
+        settled K spans at x v failed k behind.kept same (omega (arith, low, length_is, k.at_valid.offset))
 
     of : (at.block ≡ x.block) ⊎ (at.block ≢ x.block) → slice_get (results_by results (piece_at K spans x) v failed) at.block ≡ Some NotOk
     of (inl same) =

@@ -1,8 +1,8 @@
 -- Events in which some calls of handlers are not to be accepted: either one was, or what held of the module holds. The RAM stays sound.
-use Rattle.std.proofs.Common.{ℕ, ◌≡◌, ◌+◌, ◌-◌, ◌<◌, ◌^◌, Bool, true, List, [], ◌∷◌, ◌++◌, length, zip, drop, All, Contains, Option, refl, sym, ap, ◌∙◌, subst, arith, inl, inr, append-nil}
+use Rattle.std.proofs.Common.{ℕ, ◌≡◌, ◌+◌, ◌-◌, ◌<◌, ◌^◌, Bool, true, false, List, [], ◌∷◌, ◌++◌, length, zip, drop, All, Contains, Option, refl, sym, ap, ◌∙◌, subst, arith, inl, inr, append-nil}
 use Rattle.std.specs.Prelude.{◌⊎◌, nat_le}
 use Rattle.std.proofs.Math.Nat.{mod-lt}
-use Rattle.std.proofs.lemmas.List.Elements.{All-head, All-tail, Contains-append_left, Contains-push}
+use Rattle.std.proofs.lemmas.List.Elements.{All-head, All-tail, All-push, Contains-append_left, Contains-push}
 use Rattle.mt_word.specs.Word.{width_bits, Fits}
 use Rattle.mt_fault.specs.History.{Read, Write}
 use Rattle.mt_fault.specs.declared.fault.Fault.{Fault}
@@ -58,12 +58,26 @@ operation_sound laws b (app.Flash a) sound low = record { sized = sound.sized; m
 
 -- ---- what handlers do
 
--- where an event began: the shape, the fault, and what its handlers do; and which of their calls are not to be accepted
+-- where an event began: the shape, the fault, and what its handlers do; which of their calls are not to be accepted, and which replies are wrong
 pub record Handlers : Type 0 where
   pub shape : Shape
   pub fault : Option Fault
   pub all : List HandlerOp
   pub bad : HandlerCall → Bool
+  pub wrong : HandlerCall → Reply → Bool
+
+-- no reply is wrong, or none is and these calls are not to be accepted
+abbrev pub NothingIsWrong : Handlers → Type 0
+NothingIsWrong h = (call : HandlerCall) (reply : Reply) → h.wrong call reply ≡ false
+
+pub record Watches (h : Handlers) (bad : HandlerCall → Bool) : Type 0 where
+  pub calls : h.bad ≡ bad
+  pub replies : NothingIsWrong h
+
+-- a reply that isn't wrong
+abbrev pub IsRight : Handlers → HandlerOp × Reply → Type 0
+IsRight h (App op, reply) = Unit {0}
+IsRight h (Call call, reply) = h.wrong call reply ≡ false
 
 pub record HasBoard (h : Handlers) (b : Board) : Type 0 where
   pub shape : b.shape ≡ h.shape
@@ -76,7 +90,8 @@ pub record IsSpoiled (h : Handlers) (done : List HandlerOp) (log : List Entry) :
   pub bad : h.bad call ≡ true
   pub accepted : Contains (zip done (inner_replies log)) (Call call, Done)
 
--- Of all operations of handlers some were done, and the others are pending: the board is sound, this holds of the module, and that does, or the event is spoiled.
+-- Of all operations of handlers some were done, and the others are pending: the board is sound, this holds of the module, and that does and no reply was wrong,
+-- or the event is spoiled.
 pub record Goes {C : Type 0} (h : Handlers) (I P : C → Type 0) (pending : List HandlerOp) (s : Scene C) : Type 0 where
   pub done : List HandlerOp
   pub rest : h.all ≡ done ++ pending
@@ -85,11 +100,13 @@ pub record Goes {C : Type 0} (h : Handlers) (I P : C → Type 0) (pending : List
   pub ops : All (IsSoundInHandler h.shape) pending
   pub holds : I s.callee
   pub callee : IsSpoiled h done s.log ⊎ P s.callee
+  pub told : IsSpoiled h done s.log ⊎ All (IsRight h) (zip done (inner_replies s.log))
 
 -- what each row of the table keeps
 pub record Rows {C : Type 0} (h : Handlers) (t : Table C) (I P : C → Type 0) : Type 0 where
   pub holds : (c : C) (call : HandlerCall) → I c → I (t.next c call)
   pub row : (c : C) (call : HandlerCall) → P c → ((h.bad call ≡ true) × (t.reply c call ≡ Done)) ⊎ P (t.next c call)
+  pub right : (c : C) (call : HandlerCall) → P c → h.wrong call (t.reply c call) ≡ false
 
 -- ---- lists
 
@@ -123,6 +140,11 @@ newly_spoiled h done call log reply e bad is = record {
       (subst (λ (l : List (HandlerOp × Reply)). Contains l (Call call, reply)) (sym (paired done (Call call) log reply e)) (Contains-push (zip done (inner_replies log)) (Call call, reply)));
 }
 
+more_right : (h : Handlers) (done : List HandlerOp) (op : HandlerOp) (log : List Entry) (reply : Reply) → length (inner_replies log) ≡ length done → All (IsRight h) (zip done (inner_replies log)) → IsRight h (op, reply)
+    → All (IsRight h) (zip (done ++ op ∷ []) (inner_replies (log ++ Inner reply ∷ [])))
+more_right h done op log reply e all right =
+    subst (All (IsRight h)) (sym (paired done op log reply e)) (All-push (IsRight h) (zip done (inner_replies log)) (op, reply) all right)
+
 -- ---- one operation of a handler
 
 with_operation : MemoryLaws → (h : Handlers) (b : Board) (op : AppOp) (n : ℕ) → IsSoundOp h.shape op → HasBoard h b → HasBoard h (record b { words = op_words b op; operations = n })
@@ -140,11 +162,18 @@ operated-goes {C} laws h t I P rows (App op) more s g = record {
   ops = All-tail (IsSoundInHandler h.shape) (App op) more g.ops;
   holds = g.holds;
   callee = of g.callee;
+  told = tell g.told;
 }
   where
     of : IsSpoiled h g.done s.log ⊎ P s.callee → IsSpoiled h (g.done ++ App op ∷ []) (s.log ++ Inner (reply_by t s.board s.callee (App op)) ∷ []) ⊎ P s.callee
     of (inl z) = inl (still_spoiled h g.done (App op) s.log _ g.entered z)
     of (inr p) = inr p
+
+    tell : IsSpoiled h g.done s.log ⊎ All (IsRight h) (zip g.done (inner_replies s.log))
+        → IsSpoiled h (g.done ++ App op ∷ []) (s.log ++ Inner (reply_by t s.board s.callee (App op)) ∷ [])
+        ⊎ All (IsRight h) (zip (g.done ++ App op ∷ []) (inner_replies (s.log ++ Inner (reply_by t s.board s.callee (App op)) ∷ [])))
+    tell (inl z) = inl (still_spoiled h g.done (App op) s.log _ g.entered z)
+    tell (inr all) = inr (more_right h g.done (App op) s.log _ g.entered all tt)
 operated-goes {C} laws h t I P rows (Call call) more s g = record {
   done = g.done ++ Call call ∷ [];
   rest = moved h.all g.done (Call call) more g.rest;
@@ -153,8 +182,16 @@ operated-goes {C} laws h t I P rows (Call call) more s g = record {
   ops = All-tail (IsSoundInHandler h.shape) (Call call) more g.ops;
   holds = rows.holds s.callee call g.holds;
   callee = of g.callee;
+  told = tell g.callee g.told;
 }
   where
+    tell : IsSpoiled h g.done s.log ⊎ P s.callee → IsSpoiled h g.done s.log ⊎ All (IsRight h) (zip g.done (inner_replies s.log))
+        → IsSpoiled h (g.done ++ Call call ∷ []) (s.log ++ Inner (t.reply s.callee call) ∷ [])
+        ⊎ All (IsRight h) (zip (g.done ++ Call call ∷ []) (inner_replies (s.log ++ Inner (t.reply s.callee call) ∷ [])))
+    tell (inl z) all = inl (still_spoiled h g.done (Call call) s.log (t.reply s.callee call) g.entered z)
+    tell (inr p) (inl z) = inl (still_spoiled h g.done (Call call) s.log (t.reply s.callee call) g.entered z)
+    tell (inr p) (inr all) = inr (more_right h g.done (Call call) s.log (t.reply s.callee call) g.entered all (rows.right s.callee call p))
+
     by_row : ((h.bad call ≡ true) × (t.reply s.callee call ≡ Done)) ⊎ P (t.next s.callee call)
         → IsSpoiled h (g.done ++ Call call ∷ []) (s.log ++ Inner (t.reply s.callee call) ∷ []) ⊎ P (t.next s.callee call)
     by_row (inl (bad, is)) = inl (newly_spoiled h g.done call s.log (t.reply s.callee call) g.entered bad is)
@@ -190,12 +227,21 @@ served-goes {C} laws h t I P rows r rs wait s g =
       ops = g.ops;
       holds = g.holds;
       callee = of (s.log ++ entry ∷ []) same g.callee;
+      told = tell (s.log ++ entry ∷ []) same g.told;
     } in
     operated_all-goes laws h t I P rows r.ops.items (handled rs) mid begins
   where
+    longer : (log : List Entry) → inner_replies log ≡ inner_replies s.log → IsSpoiled h g.done s.log → IsSpoiled h g.done log
+    longer log same z = record { call = z.call; bad = z.bad; accepted = subst (λ (l : List Reply). Contains (zip g.done l) (Call z.call, Done)) (sym same) z.accepted }
+
     of : (log : List Entry) → inner_replies log ≡ inner_replies s.log → IsSpoiled h g.done s.log ⊎ P s.callee → IsSpoiled h g.done log ⊎ P s.callee
-    of log same (inl z) = inl (record { call = z.call; bad = z.bad; accepted = subst (λ (l : List Reply). Contains (zip g.done l) (Call z.call, Done)) (sym same) z.accepted })
+    of log same (inl z) = inl (longer log same z)
     of log same (inr p) = inr p
+
+    tell : (log : List Entry) → inner_replies log ≡ inner_replies s.log → IsSpoiled h g.done s.log ⊎ All (IsRight h) (zip g.done (inner_replies s.log))
+        → IsSpoiled h g.done log ⊎ All (IsRight h) (zip g.done (inner_replies log))
+    tell log same (inl z) = inl (longer log same z)
+    tell log same (inr all) = inr (subst (λ (l : List Reply). All (IsRight h) (zip g.done l)) (sym same) all)
 
 served-left : {C : Type 0} (t : Table C) (r : Request) (rs : List Request) (wait : ℕ) (s : Scene C) → s.board.left ≡ r ∷ rs → (served t r wait s).board.left ≡ rs
 served-left {C} t r rs wait s e =

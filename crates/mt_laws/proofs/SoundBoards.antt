@@ -12,6 +12,7 @@ use Rattle.mt_fault.specs.Placement.{IsWellPlaced, in_range, same_word}
 use Rattle.mt_fault.specs.Memory as memory
 use Rattle.mt_fault.specs.Memory.{first_words, set_spot}
 use Rattle.mt_port.specs.declared.board.Shape.{Shape}
+use Rattle.mt_port.specs.declared.request.HandlerCall.{HandlerCall}
 use Rattle.mt_port.specs.declared.request.Request.{Request}
 use Rattle.mt_port.specs.Board.{Board, IsSoundInHandler, IsWithinLimits, memory_of, injected, fitting, begun_words, powered_up}
 use Rattle.mt_cover.specs.Detection.{HasSoundWords}
@@ -41,7 +42,7 @@ use Rattle.mt_machine.specs.declared.driven.FlsRunning.{FlsRunning}
 use Rattle.mt_machine.specs.declared.driven.FlsRunning.TheVariants as fls_calls
 use Rattle.mt_machine.specs.Machine.{Machine, events_of, fls_events_of, begun, replied, on_board, running_ram, running_fls, by_service, running_call, service_of, by_fls_service, fls_running_call, fls_service_of, by_event, step, started, played}
 use Rattle.mt_laws.specs.Memory.{handled}
-use Rattle.mt_laws.proofs.Scenes.{Handlers, HasBoard, Stands, operation_sound}
+use Rattle.mt_laws.proofs.Scenes.{Handlers, NothingIsWrong, HasBoard, Stands, operation_sound}
 use Rattle.mt_laws.proofs.SceneEvents.{Enters, Anything, fresh, any-event}
 use Rattle.mt_laws.proofs.PassRows.{IsOn}
 use Rattle.mt_laws.proofs.PassEvents.{IsTaken, IsSlice, tick_enters, full_enters, part_enters}
@@ -130,7 +131,7 @@ started_words laws shape initial defect limits fits = record { sized = sizes def
 
 -- what handlers do in a line, where no call of theirs is excluded
 abbrev pub free_handlers : Board → List Request → Handlers
-free_handlers b requests = record { shape = b.shape; fault = b.fault; all = handled requests; bad = λ call. false }
+free_handlers b requests = record { shape = b.shape; fault = b.fault; all = handled requests; bad = λ call. false; wrong = λ call reply. false }
 
 abbrev pub AreSoundIn : Shape → List Request → Type 0
 AreSoundIn shape requests = All (λ (r : Request). All (IsSoundInHandler shape) r.ops.items) requests
@@ -141,10 +142,10 @@ handled_sound shape (r ∷ more) all =
     All-append (IsSoundInHandler shape) r.ops.items (handled more) (All-head (λ (r : Request). All (IsSoundInHandler shape) r.ops.items) r more all)
     (handled_sound shape more (All-tail (λ (r : Request). All (IsSoundInHandler shape) r.ops.items) r more all))
 
-pub ram_enters : PassLaws → (call : Running) (h : Handlers) (set : ParamSet) (cells : ℕ) → IsTaken h.shape set → Enters h (events_of call) (IsOn set cells) (IsSlice set)
-ram_enters laws rams.Tick h set cells taken = tick_enters laws.attempts h set cells taken
-ram_enters laws rams.Full h set cells taken = full_enters laws.attempts h set cells taken
-ram_enters laws (rams.Partial block) h set cells taken = part_enters laws.attempts h block set cells taken
+pub ram_enters : PassLaws → (call : Running) (h : Handlers) (set : ParamSet) (cells : ℕ) → IsTaken h.shape set → NothingIsWrong h → Enters h (events_of call) (IsOn set cells) (IsSlice set)
+ram_enters laws rams.Tick h set cells taken replies = tick_enters laws.attempts h set cells taken replies
+ram_enters laws rams.Full h set cells taken replies = full_enters laws.attempts h set cells taken replies
+ram_enters laws (rams.Partial block) h set cells taken replies = part_enters laws.attempts h block set cells taken replies
 
 pub cleared-on : (call : Running) (set : ParamSet) (cells : ℕ) (r : RamTst) → IsOn set cells r → IsOn set cells ((events_of call).cleared r)
 cleared-on rams.Tick set cells r on = record { same = on.same; many = on.many; results = on.results }
@@ -174,7 +175,7 @@ ram-sound laws shape z all m call requests ops h =
     let s : Scene RamTst = begun m.board r requests in
     let hs = free_handlers m.board requests in
     let set = set_of r in
-    let enters = ram_enters laws.pass call hs set r.cells (own_set shape z m all h) in
+    let enters = ram_enters laws.pass call hs set r.cells (own_set shape z m all h) (λ c reply. refl) in
     let board : HasBoard hs s.board = record { shape = refl; fault = refl; sound = record { sized = h.words.sized; memory = h.words.memory } } in
     let start : Stands hs (IsOn set r.cells) Anything (scene s.board ((events_of call).cleared r) []) =
     fresh hs (IsOn set r.cells) Anything s.board ((events_of call).cleared r) refl board (subst (λ (y : Shape). All (IsSoundInHandler y) (handled requests)) (sym h.common) (handled_sound shape requests ops))
@@ -193,20 +194,22 @@ ram-sound laws shape z all m call requests ops h =
     }
 
 -- FlsTst changes no word
-fls_enters : (call : FlsRunning) (h : Handlers) → Enters h (fls_events_of call) (λ (f : FlsTst). Unit {0}) (λ (x : Piece). Unit {0})
-fls_enters fls_calls.Tick h = record {
+pub fls_enters : (call : FlsRunning) (h : Handlers) → ((f : FlsTst) (c : HandlerCall) → h.wrong c ((fls_events_of call).tests.table.reply f c) ≡ false) → Enters h (fls_events_of call) (λ (f : FlsTst). Unit {0}) (λ (x : Piece). Unit {0})
+fls_enters fls_calls.Tick h right = record {
   attempts = record { words = λ may f x b i q board. record { sized = board.sound.sized; memory = board.sound.memory }; taken = λ f x v failed i. tt };
   row = λ f call i. tt;
   work = λ f i k d low. tt;
   inside = λ f i. tt;
   back = λ o f i. tt;
+  right = right;
 }
-fls_enters (fls_calls.Foreground block) h = record {
+fls_enters (fls_calls.Foreground block) h right = record {
   attempts = record { words = λ may f x b i q board. record { sized = board.sound.sized; memory = board.sound.memory }; taken = λ f x v failed i. tt };
   row = λ f call i. tt;
   work = λ f i k d low. tt;
   inside = λ f i. tt;
   back = λ o f i. tt;
+  right = right;
 }
 
 -- it leaves the board sound, with its fault
@@ -218,7 +221,7 @@ fls-board laws m call requests ops sound =
     let board : HasBoard hs s.board = record { shape = refl; fault = refl; sound = record { sized = sound.sized; memory = sound.memory } } in
     let start : Stands hs (λ (f : FlsTst). Unit {0}) Anything (scene s.board ((fls_events_of call).cleared m.modules.fls) []) =
     fresh hs (λ (f : FlsTst). Unit {0}) Anything s.board ((fls_events_of call).cleared m.modules.fls) refl board (handled_sound m.board.shape requests ops) tt tt in
-    (any-event laws.memory hs (fls_events_of call) (λ (f : FlsTst). Unit {0}) (λ (x : Piece). Unit {0}) (fls_enters call hs) s start).board
+    (any-event laws.memory hs (fls_events_of call) (λ (f : FlsTst). Unit {0}) (λ (x : Piece). Unit {0}) (fls_enters call hs (λ f c. refl)) s start).board
 
 fls-sound : PassLaws → (shape : Shape) (z : Setting) (m : Machine) (call : FlsRunning) (requests : List Request) → AreSoundIn shape requests → IsSoundMachine shape z m → IsSoundMachine shape z (running_fls call m requests).after
 fls-sound laws shape z m call requests ops h =

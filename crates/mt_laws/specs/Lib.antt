@@ -3,3 +3,4 @@ pub mod Plain
 pub mod Memory
 pub mod Detection
 pub mod Alarms
+pub mod Evidence

@@ -2,6 +2,7 @@
 
 ghost use Rattle.mt_laws.specs.Alarms.{FlsRaisesNoFalseAlarm, RamRaisesNoFalseAlarm};
 ghost use Rattle.mt_laws.specs.Detection.{PassesFindFaults};
+ghost use Rattle.mt_laws.specs.Evidence.{OkIsEvidence};
 ghost use Rattle.mt_laws.specs.Latency.{RequestsAreServedInTime};
 ghost use Rattle.mt_laws.specs.Memory.{MemoryIsPlain};
 ghost use Rattle.mt_laws.specs.Plain.{TestsLeaveNoTrace};
@@ -12,8 +13,9 @@ use mt_fault::{memory_stays_sound, placement_is_tested, sound_memory_comes_and_g
 use mt_fls::waits_of_running_calls as fls_waits;
 use mt_machine::lines_keep_the_board;
 use mt_ram::{
-    accepted_sets_are_sound, running_calls_leave_setting, services_leave_setting,
-    tests_leave_no_trace as ram_leaves_no_trace, waits_of_running_calls as ram_waits,
+    accepted_sets_are_sound, results_are_reset, running_calls_leave_setting,
+    services_leave_setting, tests_leave_no_trace as ram_leaves_no_trace,
+    waits_of_running_calls as ram_waits,
 };
 use mt_seq::{attempts_on_sound_memory, comparisons_are_exact};
 
@@ -84,4 +86,22 @@ pub fn passes_find_faults()
     groups_take_a_tick();
     accepted_sets_are_sound();
     running_calls_leave_setting();
+}
+
+/// From where RamTst is about to test a block, the block does not become OK while a fault that is caught in one of its slices stays and
+/// the results are not reset. So a result OK says that a test of the block has ended, and that no such fault was there all the while.
+pub fn ok_is_evidence()
+    ensures { OkIsEvidence }
+{
+    attempts_detect();
+    attempts_stay_sound();
+    memory_stays_sound();
+    sound_memory_comes_and_goes();
+    placement_is_tested();
+    passes_begin();
+    passes_go_on();
+    groups_take_a_tick();
+    accepted_sets_are_sound();
+    running_calls_leave_setting();
+    results_are_reset();
 }

@@ -1,8 +1,8 @@
 -- What is promised of each replay follows from the laws of machines.
-use Rattle.std.proofs.Common.{ℕ, ◌≡◌, ◌+◌, ◌-◌, Bool, true, false, cond, List, [], ◌∷◌, ◌++◌, length, All, Option, Result, Ok, Err, refl, sym, ap, ◌∙◌, subst}
+use Rattle.std.proofs.Common.{ℕ, ◌≡◌, ◌+◌, ◌-◌, Bool, true, false, cond, List, [], ◌∷◌, ◌++◌, length, take, drop, All, Option, Result, Ok, Err, refl, sym, ap, ◌∙◌, subst}
 use Rattle.std.specs.Prelude.{nat_lt, nat_le}
 use Rattle.std.specs.Str.{bytes_eq}
-use Rattle.std.proofs.lemmas.List.Elements.{All-nil, All-cons}
+use Rattle.std.proofs.lemmas.List.Elements.{All-nil, All-cons, All-head, All-tail}
 use Rattle.mt_fault.specs.declared.fault.Fault.{Fault}
 use Rattle.mt_port.specs.declared.board.Shape.{Shape}
 use Rattle.mt_text.specs.declared.line.Line.{Line}
@@ -12,15 +12,17 @@ use Rattle.mt_text.specs.Lines.{line_of}
 use Rattle.mt_conf.specs.declared.config.Config.{Config}
 use Rattle.mt_conf.specs.declared.config.ConfigRefusal.{ConfigRefusal}
 use Rattle.mt_conf.specs.Outcome.{outcome as config_of}
+use Rattle.mt_conf.specs.Accepted.{IsAcceptedConfig}
 use Rattle.mt_conf.specs.Laws.{AcceptedIsTaken}
 use Rattle.mt_gen.specs.Config.{job_config}
 use Rattle.mt_gen.specs.Script.{job_shape, script}
-use Rattle.mt_machine.specs.Machine.{Machine, Step, started, played}
+use Rattle.mt_machine.specs.Machine.{Machine, Step, started, played, step}
 use Rattle.mt_laws.specs.Alarms.{AgreesWithCopies, FlsRaisesNoFalseAlarm, IsFlsCalm, IsRamCalm, OfEach, RamRaisesNoFalseAlarm}
 use Rattle.mt_laws.specs.Latency.{ServesInTime, RequestsAreServedInTime}
 use Rattle.mt_laws.specs.Plain.{TestsLeaveNoTrace}
 use Rattle.mt_laws.specs.Memory.{ArePlain, MemoryIsPlain}
 use Rattle.mt_laws.specs.Detection.{IsNotOkBehind, PassesFindFaults}
+use Rattle.mt_laws.specs.Evidence.{IsNotOk, LeavesThere, OkIsEvidence}
 use Rattle.mt_replay.specs.declared.form.Form.{Form}
 use Rattle.mt_replay.specs.declared.form.Form.TheVariants as forms
 use Rattle.mt_replay.specs.declared.refused.Refused.TheVariants as because
@@ -33,7 +35,7 @@ use Rattle.mt_replay.specs.Soak.{soaked}
 use Rattle.mt_verify.specs.Lines.{first_other_line}
 use Rattle.mt_replay.specs.Locating.{◌>>=◌}
 use Rattle.mt_replay.specs.Verify.{Claim, claimed, claimed_from, last_claimed, claim_gives, compared, is_front, is_too_long, judged_by, line_said, replayed, script_limit, spelled, telling, uncut, verifying, verifying_by}
-use Rattle.mt_replay.specs.Promises.{IsJob, AreServedInTime, LeavesNoTrace, FindsFaults, RaisesNoFalseAlarm, lines_of}
+use Rattle.mt_replay.specs.Promises.{IsJob, IsReplay, Runs, Verifies, Generates, AreServedInTime, LeavesNoTrace, FindsFaults, GivesEvidence, RaisesNoFalseAlarm, lines_of, steps_between}
 use Rattle.mt_replay.proofs.Accepted.{small}
 use Rattle.mt_replay.proofs.Fixed.{config_accepted}
 use Rattle.mt_replay.proofs.Taken.{ReadingLaws, AreTaken, lines-taken, read_accepted}
@@ -185,31 +187,115 @@ are_served_in_time law reading generated defect = record {
   generated = λ number. law job_shape (started job_config defect) (script number) (generated number);
 }
 
+-- ---- what is replayed
+
+-- A replay is that of accepted lines under an accepted configuration.
+record IsPlayed (defect : Option Fault) (c : Config) (lines : List Line) (steps : List Step) : Type 0 where
+  config : IsAcceptedConfig c
+  lines : All (IsAccepted c.shape) lines
+  steps : steps ≡ (played (started c defect) lines).steps
+
+verified_steps : (defect : Option Fault) (ending : Ending) (bytes given : List ℕ) (c : Config) (lines : List Line) (script : Cut) → IsJob ending bytes c script
+    → claimed c.shape ending script ≡ Ok (record { lines = lines; given = given }) → (verifying defect ending bytes).steps ≡ (played (started c defect) lines).steps
+unfolding verifying
+verified_steps defect ending bytes given c lines script is claims =
+    ap (λ (j : Job). (judged_job (verifying_by defect ending) ending j).steps) is.parts
+    ∙ ap (λ (b : Bool). (cond b (bad_config (because.Rule 18)) (verifying_by defect ending (config_of is.text) script)).steps) (small (length is.text) is.short)
+    ∙ ap (λ (r : Result Config ConfigRefusal). (verifying_by defect ending r script).steps) is.accepted
+    ∙ ap (λ (r : Result Claim End). (claim_gives c defect ending r).steps) claims
+    ∙ compared_steps ending (replayed c defect lines) given
+
+verified_lines : ReadingLaws → (c : Config) (ending : Ending) (script : Cut) (lines : List Line) (given : List ℕ) → claimed c.shape ending script ≡ Ok (record { lines = lines; given = given }) → All (IsAccepted c.shape) lines
+verified_lines reading c ending script lines given claims =
+    subst (Claims c.shape) claims (claims_from reading c.shape ending 1 0 script.lines script.rest)
+
+-- what is known of what is read and generated
+pub record InputLaws : Type 0 where
+  pub taken : AcceptedIsTaken
+  pub reading : ReadingLaws
+  pub lines : (number : ℕ) → All (IsAccepted job_shape) (script number)
+  pub config : IsAcceptedConfig job_config
+
+are_played : InputLaws → (defect : Option Fault) (c : Config) (lines : List Line) (steps : List Step) → IsReplay defect c lines steps → IsPlayed defect c lines steps
+unfolding soaked
+are_played laws defect c lines steps (Runs ending bytes script is lined e) = record {
+  config = config_accepted laws.taken is.text c is.accepted;
+  lines = subst (All (IsAccepted c.shape)) (sym lined) (lines_accepted laws.reading c ending script);
+  steps = e ∙ job_steps defect ending bytes c script is ∙ ap (λ (l : List Line). (played (started c defect) l).steps) (sym lined);
+}
+are_played laws defect c lines steps (Verifies ending bytes given script is claims e) = record {
+  config = config_accepted laws.taken is.text c is.accepted;
+  lines = verified_lines laws.reading c ending script lines given claims;
+  steps = e ∙ verified_steps defect ending bytes given c lines script is claims;
+}
+are_played laws defect c lines steps (Generates number is lined e) =
+    let same : (played (started job_config defect) (script number)).steps ≡ (played (started c defect) lines).steps =
+    ap (λ (l : List Line). (played (started job_config defect) l).steps) (sym lined) ∙ ap (λ (d : Config). (played (started d defect) lines).steps) (sym is) in
+    record {
+      config = subst IsAcceptedConfig (sym is) laws.config;
+      lines = subst (λ (d : Config). All (IsAccepted d.shape) lines) (sym is) (subst (All (IsAccepted job_shape)) (sym lined) (laws.lines number));
+      steps = e ∙ same;
+    }
+
 -- ---- transparency and detection
 
-pub leaves_no_trace : TestsLeaveNoTrace → MemoryIsPlain → AcceptedIsTaken → (defect : Option Fault) → LeavesNoTrace defect
-leaves_no_trace steps memory taken defect = record {
-  steps = λ ending bytes c script is sound. job_steps defect ending bytes c script is
-      ∙ steps c defect (lines_of c ending script) (config_accepted taken is.text c is.accepted) sound.start sound.injects;
-  memory = λ ending bytes c script is sound. subst (ArePlain (started c defect) (lines_of c ending script)) (sym (job_steps defect ending bytes c script is))
-      (memory c defect (lines_of c ending script) (config_accepted taken is.text c is.accepted) sound.start sound.injects);
+pub leaves_no_trace : TestsLeaveNoTrace → MemoryIsPlain → InputLaws → (defect : Option Fault) → LeavesNoTrace defect
+leaves_no_trace law memory input defect = record {
+  steps = λ c lines steps replay sound.
+      let is = are_played input defect c lines steps replay in
+      is.steps ∙ law c defect lines is.config sound.start sound.injects;
+  memory = λ c lines steps replay sound.
+      let is = are_played input defect c lines steps replay in
+      subst (ArePlain (started c defect) lines) (sym is.steps) (memory c defect lines is.config sound.start sound.injects);
 }
 
-pub finds_faults : PassesFindFaults → AcceptedIsTaken → ReadingLaws → (defect : Option Fault) → FindsFaults defect
-finds_faults law taken reading defect = record {
-  jobs = λ ending bytes c script is before lines behind split fault p catch u.
-      let same : (outcome forms.Run ending defect bytes).steps ≡ (played (started c defect) (before ++ lines ++ behind)).steps =
-      job_steps defect ending bytes c script is ∙ ap (λ (l : List Line). (played (started c defect) l).steps) split in
-      subst (λ (l : List Step). IsNotOkBehind l (length (before ++ lines)) p.place.block) (sym same)
-      (law c defect before lines behind (config_accepted taken is.text c is.accepted) (subst (All (IsAccepted c.shape)) split (lines_accepted reading c ending script)) fault p catch u);
+pub finds_faults : PassesFindFaults → InputLaws → (defect : Option Fault) → FindsFaults defect
+finds_faults law input defect = record {
+  replays = λ c before lines behind steps replay fault p catch u.
+      let is = are_played input defect c (before ++ lines ++ behind) steps replay in
+      subst (λ (l : List Step). IsNotOkBehind l (length (before ++ lines)) p.place.block) (sym is.steps) (law c defect before lines behind is.config is.lines fault p catch u);
 }
 
-pub no_false_alarm : RamRaisesNoFalseAlarm → FlsRaisesNoFalseAlarm → AcceptedIsTaken → (defect : Option Fault) → RaisesNoFalseAlarm defect
-no_false_alarm ram fls taken defect = record {
-  ram = λ ending bytes c script is sound. subst (OfEach IsRamCalm (lines_of c ending script)) (sym (job_steps defect ending bytes c script is))
-      (ram c defect (lines_of c ending script) (config_accepted taken is.text c is.accepted) sound.start sound.injects);
-  fls = λ ending bytes c script is equal.
-      let same = job_steps defect ending bytes c script is in
-      subst (OfEach IsFlsCalm (lines_of c ending script)) (sym same)
-      (fls c defect (lines_of c ending script) (config_accepted taken is.text c is.accepted) (subst (All (λ (s : Step). AgreesWithCopies c.fls_tst s.after.board.flash)) same equal));
+-- ---- evidence
+
+-- the steps of some lines are those from the machine that the lines before them leave
+first_steps : (m : Machine) (lines behind : List Line) → take (length lines) (played m (lines ++ behind)).steps ≡ (played m lines).steps
+first_steps m [] behind = refl
+first_steps m (line ∷ more) behind = ap (λ (l : List Step). step m line ∷ l) (first_steps (step m line).after more behind)
+
+steps_are_between : (m : Machine) (before lines behind : List Line) → steps_between before lines (played m (before ++ lines ++ behind)).steps ≡ (played (played m before).after lines).steps
+steps_are_between m [] lines behind = first_steps m lines behind
+steps_are_between m (line ∷ before) lines behind = steps_are_between (step m line).after before lines behind
+
+front_accepted : (shape : Shape) (before lines behind : List Line) → All (IsAccepted shape) (before ++ lines ++ behind) → All (IsAccepted shape) (before ++ lines)
+front_accepted shape [] lines behind all = first lines all
+  where
+    first : (l : List Line) → All (IsAccepted shape) (l ++ behind) → All (IsAccepted shape) l
+    first [] all = All-nil (IsAccepted shape)
+    first (line ∷ more) all = All-cons (IsAccepted shape) line more (All-head (IsAccepted shape) line (more ++ behind) all) (first more (All-tail (IsAccepted shape) line (more ++ behind) all))
+front_accepted shape (line ∷ before) lines behind all =
+    All-cons (IsAccepted shape) line (before ++ lines) (All-head (IsAccepted shape) line (before ++ lines ++ behind) all)
+    (front_accepted shape before lines behind (All-tail (IsAccepted shape) line (before ++ lines ++ behind) all))
+
+pub gives_evidence : OkIsEvidence → InputLaws → (defect : Option Fault) → GivesEvidence defect
+gives_evidence law input defect = record {
+  replays = λ c before lines behind steps replay fault p catch present start there.
+      let is = are_played input defect c (before ++ lines ++ behind) steps replay in
+      let same : steps_between before lines steps ≡ (played (played (started c defect) before).after lines).steps =
+      ap (λ (l : List Step). steps_between before lines l) is.steps ∙ steps_are_between (started c defect) before lines behind in
+      subst (OfEach (IsNotOk p.place.block) lines) (sym same)
+      (law c defect before lines is.config (front_accepted c.shape before lines behind is.lines) fault p catch present start (subst (OfEach LeavesThere lines) same there));
+}
+
+-- ---- false alarms
+
+pub no_false_alarm : RamRaisesNoFalseAlarm → FlsRaisesNoFalseAlarm → InputLaws → (defect : Option Fault) → RaisesNoFalseAlarm defect
+no_false_alarm ram fls input defect = record {
+  ram = λ c lines steps replay sound.
+      let is = are_played input defect c lines steps replay in
+      subst (OfEach IsRamCalm lines) (sym is.steps) (ram c defect lines is.config sound.start sound.injects);
+  fls = λ c lines steps replay equal.
+      let is = are_played input defect c lines steps replay in
+      subst (OfEach IsFlsCalm lines) (sym is.steps)
+      (fls c defect lines is.config (subst (All (λ (s : Step). AgreesWithCopies c.fls_tst s.after.board.flash)) is.steps equal));
 }

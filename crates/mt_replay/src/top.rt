@@ -5,7 +5,7 @@ ghost use Rattle.mt_fault.specs.declared.fault.Fault.{Fault as MemoryFault};
 ghost use Rattle.mt_replay.specs.declared.form.Asked.{Asked};
 ghost use Rattle.mt_replay.specs.Changes.{change};
 ghost use Rattle.mt_replay.specs.Locate.{LocatingIsExact};
-ghost use Rattle.mt_replay.specs.Promises.{AreServedInTime, LeavesNoTrace, RaisesNoFalseAlarm, FindsFaults, TellsLeastTicks};
+ghost use Rattle.mt_replay.specs.Promises.{AreServedInTime, LeavesNoTrace, RaisesNoFalseAlarm, FindsFaults, GivesEvidence, TellsLeastTicks};
 ghost use Rattle.mt_replay.specs.Replay.{form_named, soak_of, soak_named, ask_of, ask_named, form_of, Replays, StatusCaused, LeavesBoard, IsLeftFree, Completes};
 
 use crate::form::{Ask, Asked, Form};
@@ -16,10 +16,10 @@ use crate::status::Status;
 use crate::verify::verify_job;
 use mt_conf::accepted_is_taken;
 use mt_cut::longest_runs_are_least;
-use mt_gen::scripts_are_accepted;
+use mt_gen::{job_config_is_accepted, scripts_are_accepted};
 use mt_laws::{
-    memory_is_plain, no_false_alarm_of_fls, no_false_alarm_of_ram, passes_find_faults,
-    requests_are_served_in_time, tests_leave_no_trace,
+    memory_is_plain, no_false_alarm_of_fls, no_false_alarm_of_ram, ok_is_evidence,
+    passes_find_faults, requests_are_served_in_time, tests_leave_no_trace,
 };
 use mt_locate::{explaining_is_tested, faults_are_listed_once, faults_of_the_slice_are_listed};
 use mt_port::{Bench, Sink, Source};
@@ -111,11 +111,13 @@ fn promise()
     ensures transparent { (defect : Option MemoryFault) → LeavesNoTrace defect }
     ensures calm { (defect : Option MemoryFault) → RaisesNoFalseAlarm defect }
     ensures detects { (defect : Option MemoryFault) → FindsFaults defect }
+    ensures evidence { (defect : Option MemoryFault) → GivesEvidence defect }
 {
     // Lines that are read are accepted, and so are generated ones and configurations.
     reading_is_spelling();
     spelled_lines_are_accepted();
     scripts_are_accepted();
+    job_config_is_accepted();
     accepted_is_taken();
     requests_are_served_in_time();
     tests_leave_no_trace();
@@ -123,6 +125,7 @@ fn promise()
     no_false_alarm_of_ram();
     no_false_alarm_of_fls();
     passes_find_faults();
+    ok_is_evidence();
 }
 
 // What is promised of the forms that list faults and cut passes.
@@ -195,13 +198,13 @@ pub fn replay<S: Source, K: Sink, B: Bench>(
     // Whatever bytes the job has, each request of its replay is served where its offset says; it waits 0, or less than the
     // length of the attempt that it meets; and an urgent one at most the words of the slice, where the attempt may be dropped.
     ensures latency { AreServedInTime (B.state board.old).defect }
-    // Whatever bytes the job has, where the board has no fault at the start and no line injects one, its replay comes to the
-    // same where no test touches a word of the application, but that each sequence that has ended leaves the fill of a
+    // Of each job that is run or verified, and of each generated one: where the board has no fault at the start and no line
+    // injects one, its replay comes to the same where no test touches a word of the application, but that each sequence that has ended leaves the fill of a
     // destructive block: the same answers, waits and results, and the same words after each line. Each answer of the
     // application is that of a plain memory on which its operations are done in script order, with such fills between them.
     ensures transparent { LeavesNoTrace (B.state board.old).defect }
-    // Whatever bytes the job has, where the board has no fault at the start and no line injects one, no block of RamTst is ever
-    // NOT_OK, and no trace line of RamTst reports a failure. While each flash word equals its copy after every line, FlsTst
+    // Of the same jobs: where the board has no fault at the start and no line injects one, no block of RamTst is ever NOT_OK,
+    // and no trace line of RamTst reports a failure. While each flash word equals its copy after every line, FlsTst
     // reports none.
     ensures calm { RaisesNoFalseAlarm (B.state board.old).defect }
     // Whatever bytes the input has, `locate` lists a fault exactly where it lies inside the slice and explains what was missed
@@ -209,9 +212,12 @@ pub fn replay<S: Source, K: Sink, B: Bench>(
     ensures exact { LocatingIsExact }
     // Whatever bytes the job has, no cut under the budget has fewer ticks than `cut` tells.
     ensures least { TellsLeastTicks (B.state board.old).defect }
-    // Whatever bytes the job has, where a pass of its replay runs undisturbed over a fault that its algorithm catches, the
-    // block of its slice is NOT_OK behind it.
+    // Of the same jobs: where a pass of its replay runs undisturbed over a fault that its algorithm catches, the block of its
+    // slice is NOT_OK behind it.
     ensures detects { FindsFaults (B.state board.old).defect }
+    // Of the same jobs: from where RamTst is about to test a block, the block does not become OK, and no call is told that it
+    // is, while a fault that is caught in one of its slices stays and the results are not reset.
+    ensures evidence { GivesEvidence (B.state board.old).defect }
 {
     promise();
     promise_of_tables();
