@@ -1,50 +1,37 @@
 //! Words, as hexadecimal digits spell them.
 
-ghost use Rattle.std.specs.Prelude.{◌≡◌, ◌<◌, ◌≤◌, true, length};
+ghost use Rattle.std.specs.Prelude.{◌≡◌, ◌<◌, ◌≤◌, if◌then◌else◌, Some, None, length, IfSome};
 ghost use Rattle.std.specs.List.{list_all};
-ghost use Rattle.mt_hex.specs.Hex.{is_hex, hex_digit, hex, hex_of, digits_of, is_word, word_of};
+ghost use Rattle.mt_hex.specs.Hex.{is_hex, hex_digit, hex, hex_of, digits_of, word_of};
 
 use mt_word::{Width, bits};
 
-fn is_hex(byte: u8) -> bool
-    ensures { result ≡ is_hex byte }
+/// The value of a hexadecimal digit of either case, or none of another byte.
+fn digit_of(byte: u8) -> Option<u8>
+    ensures value { result ≡ (if is_hex byte then Some (hex_digit byte) else None) }
+    ensures small { IfSome result (λ digit. digit < 16) }
 {
-    (b'0' <= byte && byte <= b'9')
-        || (b'a' <= byte && byte <= b'f')
-        || (b'A' <= byte && byte <= b'F')
-}
-
-fn are_hex(bytes: &[u8]) -> bool
-    ensures { result ≡ list_all is_hex bytes.now }
-{
-    bytes.iter().all(|byte| is_hex(*byte))
-}
-
-fn hex_digit(byte: u8) -> u64
-    requires { is_hex byte ≡ true }
-    ensures value { result ≡ hex_digit byte }
-    ensures small { result < 16 }
-{
-    if b'0' <= byte && byte <= b'9' {
-        u64::from(byte - b'0')
-    } else if b'a' <= byte {
-        u64::from(byte - b'a') + 10
-    } else {
-        u64::from(byte - b'A') + 10
+    match byte {
+        b'0'..=b'9' => Some(byte - b'0'),
+        b'a'..=b'f' => Some(byte - b'a' + 10),
+        b'A'..=b'F' => Some(byte - b'A' + 10),
+        _ => None,
     }
 }
 
-/// The value of at most sixteen hexadecimal digits.
-fn hex(bytes: &[u8]) -> u64
-    requires digits { list_all is_hex bytes.now ≡ true }
+/// The value of at most sixteen hexadecimal digits, or none where another byte is among them.
+fn hex(bytes: &[u8]) -> Option<u64>
     requires few { length bytes.now ≤ 16 }
-    ensures { result ≡ hex 0 bytes.now }
+    ensures { result ≡ (if list_all is_hex bytes.now then Some (hex 0 bytes.now) else None) }
 {
     let mut n = 0u64;
     for byte in bytes {
-        n = 16 * n + hex_digit(*byte);
+        let Some(digit) = digit_of(*byte) else {
+            return None;
+        };
+        n = 16 * n + u64::from(digit);
     }
-    n
+    Some(n)
 }
 
 /// The number that 1 to 16 hexadecimal digits of either case spell.
@@ -52,22 +39,17 @@ fn hex(bytes: &[u8]) -> u64
 pub fn hex_of(bytes: &[u8]) -> Option<u64>
     ensures { result ≡ hex_of bytes.now }
 {
-    if bytes.is_empty() || bytes.len() > 16 || !are_hex(bytes) {
+    if bytes.is_empty() || bytes.len() > 16 {
         return None;
     }
-    Some(hex(bytes))
+    hex(bytes)
 }
 
 fn digits_of(width: Width) -> usize
-    ensures { result ≡ digits_of width }
+    ensures value { result ≡ digits_of width }
+    ensures few { result ≤ 16 }
 {
     bits(width) as usize / 4
-}
-
-fn is_word(width: Width, bytes: &[u8]) -> bool
-    ensures { result ≡ is_word width bytes.now }
-{
-    bytes.len() == digits_of(width) && are_hex(bytes)
 }
 
 /// The word that exactly as many hexadecimal digits spell as the width has fours of bits.
@@ -75,8 +57,8 @@ fn is_word(width: Width, bytes: &[u8]) -> bool
 pub fn word_of(width: Width, bytes: &[u8]) -> Option<u64>
     ensures { result ≡ word_of width bytes.now }
 {
-    if is_word(width, bytes) {
-        Some(hex(bytes))
+    if bytes.len() == digits_of(width) {
+        hex(bytes)
     } else {
         None
     }

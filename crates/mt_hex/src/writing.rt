@@ -13,8 +13,10 @@ pub fn push_bytes<const N: usize>(out: &mut ArrayVec<u8, N>, bytes: &[u8])
     requires { length out.old.items + length bytes.now ≤ N }
     ensures { out.new.items ≡ out.old.items ++ bytes.now }
 {
-    for byte in bytes {
-        out.push(*byte);
+    match out.try_extend_from_slice(bytes) {
+        Ok(()) => {}
+        // There is room.
+        Err(_) => unreachable!(),
     }
 }
 

@@ -162,5 +162,10 @@ impl Input {
 fn line_len(bytes: &[u8]) -> usize
     ensures { result ≡ prefix_len (λ b. not (b == 10)) bytes.now }
 {
-    bytes.iter().take_while(|b| **b != b'\n').count()
+    for (i, byte) in bytes.iter().enumerate() {
+        if *byte == b'\n' {
+            return i;
+        }
+    }
+    bytes.len()
 }

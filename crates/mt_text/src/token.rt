@@ -1,6 +1,6 @@
 //! Tokens with their places.
 
-ghost use Rattle.std.specs.Prelude.{◌≡◌, ◌<◌, ◌≤◌, ◌+◌, true, length, IfSome};
+ghost use Rattle.std.specs.Prelude.{◌≡◌, ◌<◌, ◌≤◌, ◌+◌, if◌then◌else◌, Some, None, length, IfSome};
 ghost use Rattle.std.specs.List.{list_all};
 ghost use Rattle.mt_hex.specs.Hex.{is_digit};
 ghost use Rattle.mt_text.specs.Tokens.{is_word, skip, word_len, token_len, has_leading_zero, decimal, number_of, both, point, spot_of};
@@ -15,7 +15,10 @@ pub struct Token<'a> {
 pub fn is_word(byte: u8) -> bool
     ensures { result ≡ is_word byte }
 {
-    !(byte == b' ' || byte == b'[' || byte == b']' || byte == b';')
+    match byte {
+        b' ' | b'[' | b']' | b';' => false,
+        _ => true,
+    }
 }
 
 pub fn skip(text: &[u8]) -> &[u8]
@@ -67,23 +70,19 @@ fn has_leading_zero(bytes: &[u8]) -> bool
     }
 }
 
-fn are_digits(bytes: &[u8]) -> bool
-    ensures { result ≡ list_all is_digit bytes.now }
-{
-    bytes.iter().all(|byte| b'0' <= *byte && *byte <= b'9')
-}
-
-/// The value of at most ten decimal digits.
-fn decimal(bytes: &[u8]) -> u64
-    requires digits { list_all is_digit bytes.now ≡ true }
+/// The value of at most ten decimal digits, or none where another byte is among them.
+fn decimal(bytes: &[u8]) -> Option<u64>
     requires few { length bytes.now ≤ 10 }
-    ensures { result ≡ decimal 0 bytes.now }
+    ensures { result ≡ (if list_all is_digit bytes.now then Some (decimal 0 bytes.now) else None) }
 {
     let mut n = 0u64;
     for byte in bytes {
+        if !(b'0' <= *byte && *byte <= b'9') {
+            return None;
+        }
         n = 10 * n + u64::from(*byte - b'0');
     }
-    n
+    Some(n)
 }
 
 /// The number that the bytes spell.
@@ -91,14 +90,12 @@ fn decimal(bytes: &[u8]) -> u64
 pub fn number_of(bytes: &[u8]) -> Option<u32>
     ensures { result ≡ number_of bytes.now }
 {
-    if has_leading_zero(bytes) || !are_digits(bytes) || bytes.len() > 10 {
+    if has_leading_zero(bytes) || bytes.len() > 10 {
         return None;
     }
-    let n = decimal(bytes);
-    if n < 4_294_967_296 {
-        Some(n as u32)
-    } else {
-        None
+    match decimal(bytes) {
+        Some(n) if n < 4_294_967_296 => Some(n as u32),
+        _ => None,
     }
 }
 

@@ -12,4 +12,4 @@ pub overflow_add-n : goal.overflow_add-n
 overflow_add-n c =
     let few : c.loop-byte.byte-index ≤ 15 = omega arith in
     let most : 16 ^ c.loop-byte.byte-index ≤ 16 ^ 15 = pow-le-pow_right {n = 16} (lit< tt) few in
-    omega arith
+    grind arith
