@@ -1,6 +1,6 @@
 //! The C files of the tables.
 
-ghost use Rattle.std.specs.Prelude.{◌≡◌, ◌≤◌, ℕ, All, IfOk};
+ghost use Rattle.std.specs.Prelude.{◌≡◌, ◌≢◌, ◌≤◌, ℕ, All, IfErr, IfOk};
 ghost use Rattle.mt_plan.specs.Plan.{IsAccepted};
 ghost use Rattle.mt_blocks.specs.Accepted.{IsAcceptedFls, IsAcceptedRam, IsAcceptedSet};
 ghost use Rattle.mt_unit.specs.Reading.{numbers_in};
@@ -23,7 +23,9 @@ pub enum Unwritten {
 }
 
 impl From<AllocError> for Unwritten {
-    fn from(_error: AllocError) -> Unwritten {
+    fn from(_error: AllocError) -> Unwritten
+        ensures { result ≡ Unwritten.NoMemory }
+    {
         Unwritten::NoMemory
     }
 }
@@ -33,9 +35,13 @@ const MADE: &str =
 
 /// A text, if the reader reads these numbers from it.
 fn read_back(alloc: Global, text: Vec<u8>, numbers: &[u64]) -> Result<Vec<u8>, Unwritten>
-    ensures { IfOk result (λ given. numbers_in given.items ≡ numbers.now) }
+    ensures given { IfOk result (λ given. given.items ≡ text.items) }
+    ensures read { IfOk result (λ given. numbers_in given.items ≡ numbers.now) }
+    ensures refused { IfErr result (λ why. why ≡ Unwritten.NotReadBack → numbers_in text.items ≢ numbers.now) }
 {
-    let read = numbers_in(alloc, text.as_slice())?;
+    let Ok(read) = numbers_in(alloc, text.as_slice()) else {
+        return Err(Unwritten::NoMemory);
+    };
     if read.as_slice() == numbers {
         Ok(text)
     } else {
