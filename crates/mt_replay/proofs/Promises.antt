@@ -192,8 +192,8 @@ are_served_in_time law reading generated defect = record {
 -- A replay is that of accepted lines under an accepted configuration.
 record IsPlayed (defect : Option Fault) (c : Config) (lines : List Line) (steps : List Step) : Type 0 where
   config : IsAcceptedConfig c
-  lines : All (IsAccepted c.shape) lines
-  steps : steps ≡ (played (started c defect) lines).steps
+  taken : All (IsAccepted c.shape) lines
+  are : steps ≡ (played (started c defect) lines).steps
 
 verified_steps : (defect : Option Fault) (ending : Ending) (bytes given : List ℕ) (c : Config) (lines : List Line) (script : Cut) → IsJob ending bytes c script
     → claimed c.shape ending script ≡ Ok (record { lines = lines; given = given }) → (verifying defect ending bytes).steps ≡ (played (started c defect) lines).steps
@@ -220,21 +220,21 @@ are_played : InputLaws → (defect : Option Fault) (c : Config) (lines : List Li
 unfolding soaked
 are_played laws defect c lines steps (Runs ending bytes script is lined e) = record {
   config = config_accepted laws.taken is.text c is.accepted;
-  lines = subst (All (IsAccepted c.shape)) (sym lined) (lines_accepted laws.reading c ending script);
-  steps = e ∙ job_steps defect ending bytes c script is ∙ ap (λ (l : List Line). (played (started c defect) l).steps) (sym lined);
+  taken = subst (All (IsAccepted c.shape)) (sym lined) (lines_accepted laws.reading c ending script);
+  are = e ∙ job_steps defect ending bytes c script is ∙ ap (λ (l : List Line). (played (started c defect) l).steps) (sym lined);
 }
 are_played laws defect c lines steps (Verifies ending bytes given script is claims e) = record {
   config = config_accepted laws.taken is.text c is.accepted;
-  lines = verified_lines laws.reading c ending script lines given claims;
-  steps = e ∙ verified_steps defect ending bytes given c lines script is claims;
+  taken = verified_lines laws.reading c ending script lines given claims;
+  are = e ∙ verified_steps defect ending bytes given c lines script is claims;
 }
 are_played laws defect c lines steps (Generates number is lined e) =
     let same : (played (started job_config defect) (script number)).steps ≡ (played (started c defect) lines).steps =
     ap (λ (l : List Line). (played (started job_config defect) l).steps) (sym lined) ∙ ap (λ (d : Config). (played (started d defect) lines).steps) (sym is) in
     record {
       config = subst IsAcceptedConfig (sym is) laws.config;
-      lines = subst (λ (d : Config). All (IsAccepted d.shape) lines) (sym is) (subst (All (IsAccepted job_shape)) (sym lined) (laws.lines number));
-      steps = e ∙ same;
+      taken = subst (λ (d : Config). All (IsAccepted d.shape) lines) (sym is) (subst (All (IsAccepted job_shape)) (sym lined) (laws.lines number));
+      are = e ∙ same;
     }
 
 -- ---- transparency and detection
@@ -243,17 +243,17 @@ pub leaves_no_trace : TestsLeaveNoTrace → MemoryIsPlain → InputLaws → (def
 leaves_no_trace law memory input defect = record {
   steps = λ c lines steps replay sound.
       let is = are_played input defect c lines steps replay in
-      is.steps ∙ law c defect lines is.config sound.start sound.injects;
+      is.are ∙ law c defect lines is.config sound.start sound.injects;
   memory = λ c lines steps replay sound.
       let is = are_played input defect c lines steps replay in
-      subst (ArePlain (started c defect) lines) (sym is.steps) (memory c defect lines is.config sound.start sound.injects);
+      subst (ArePlain (started c defect) lines) (sym is.are) (memory c defect lines is.config sound.start sound.injects);
 }
 
 pub finds_faults : PassesFindFaults → InputLaws → (defect : Option Fault) → FindsFaults defect
 finds_faults law input defect = record {
   replays = λ c before lines behind steps replay fault p catch u.
       let is = are_played input defect c (before ++ lines ++ behind) steps replay in
-      subst (λ (l : List Step). IsNotOkBehind l (length (before ++ lines)) p.place.block) (sym is.steps) (law c defect before lines behind is.config is.lines fault p catch u);
+      subst (λ (l : List Step). IsNotOkBehind l (length (before ++ lines)) p.place.block) (sym is.are) (law c defect before lines behind is.config is.taken fault p catch u);
 }
 
 -- ---- evidence
@@ -282,9 +282,9 @@ gives_evidence law input defect = record {
   replays = λ c before lines behind steps replay fault p catch present start there.
       let is = are_played input defect c (before ++ lines ++ behind) steps replay in
       let same : steps_between before lines steps ≡ (played (played (started c defect) before).after lines).steps =
-      ap (λ (l : List Step). steps_between before lines l) is.steps ∙ steps_are_between (started c defect) before lines behind in
+      ap (λ (l : List Step). steps_between before lines l) is.are ∙ steps_are_between (started c defect) before lines behind in
       subst (OfEach (IsNotOk p.place.block) lines) (sym same)
-      (law c defect before lines is.config (front_accepted c.shape before lines behind is.lines) fault p catch present start (subst (OfEach LeavesThere lines) same there));
+      (law c defect before lines is.config (front_accepted c.shape before lines behind is.taken) fault p catch present start (subst (OfEach LeavesThere lines) same there));
 }
 
 -- ---- false alarms
@@ -293,9 +293,9 @@ pub no_false_alarm : RamRaisesNoFalseAlarm → FlsRaisesNoFalseAlarm → InputLa
 no_false_alarm ram fls input defect = record {
   ram = λ c lines steps replay sound.
       let is = are_played input defect c lines steps replay in
-      subst (OfEach IsRamCalm lines) (sym is.steps) (ram c defect lines is.config sound.start sound.injects);
+      subst (OfEach IsRamCalm lines) (sym is.are) (ram c defect lines is.config sound.start sound.injects);
   fls = λ c lines steps replay equal.
       let is = are_played input defect c lines steps replay in
-      subst (OfEach IsFlsCalm lines) (sym is.steps)
-      (fls c defect lines is.config (subst (All (λ (s : Step). AgreesWithCopies c.fls_tst s.after.board.flash)) is.steps equal));
+      subst (OfEach IsFlsCalm lines) (sym is.are)
+      (fls c defect lines is.config (subst (All (λ (s : Step). AgreesWithCopies c.fls_tst s.after.board.flash)) is.are equal));
 }
