@@ -24,9 +24,17 @@
 #ifndef MT_H
 #define MT_H
 
-#include <assert.h>
 #include <stddef.h>
 #include <stdint.h>
+
+/* Checks a fact about the target when it is compiled. */
+#if defined(__cplusplus)
+#define MT_ASSERT(fact, text) static_assert(fact, text)
+#elif defined(__STDC_VERSION__) && __STDC_VERSION__ >= 201112L
+#define MT_ASSERT(fact, text) _Static_assert(fact, text)
+#else
+#define MT_ASSERT(fact, text) extern const char mt_assert[(fact) ? 1 : -1]
+#endif
 
 /* The most words that a slice has, and the most bytes of an algorithm's text. */
 #define MT_WORDS 64
@@ -35,13 +43,14 @@
 /* How many bytes a test has. */
 #define MT_TEST_SIZE 1008
 
-/* The version of this header. It changes when a layout, a number or a call changes. */
+/* The version of the project that this header is of. It is the one in the file VERSION. */
 #define MT_VERSION_MAJOR 1U
-#define MT_VERSION_MINOR 1U
+#define MT_VERSION_MINOR 0U
+#define MT_VERSION_PATCH 0U
 
 /* The policies: the words are as they were after the test, or hold the fill. */
-#define MT_KEEP_WORDS 0U
-#define MT_FILL_WORDS 1U
+#define MT_KEEP_WORDS UINT32_C(0)
+#define MT_FILL_WORDS UINT32_C(1)
 
 /* What a test is to be. */
 struct mt_settings {
@@ -76,39 +85,39 @@ struct mt_refusal {
     uint32_t place;
 };
 
-static_assert(sizeof(size_t) == 8, "the length of a text has 64 bits");
-static_assert(sizeof(struct mt_settings) == 32, "the layout of mt_settings");
-static_assert(sizeof(struct mt_test) == MT_TEST_SIZE, "the layout of mt_test");
-static_assert(offsetof(struct mt_test, text) == 48, "the layout of mt_test");
-static_assert(offsetof(struct mt_test, saved) == 496, "the layout of mt_test");
-static_assert(sizeof(struct mt_access) == 16, "the layout of mt_access");
-static_assert(sizeof(struct mt_refusal) == 8, "the layout of mt_refusal");
+MT_ASSERT(sizeof(size_t) == 8, "the length of a text has 64 bits");
+MT_ASSERT(sizeof(struct mt_settings) == 32, "the layout of mt_settings");
+MT_ASSERT(sizeof(struct mt_test) == MT_TEST_SIZE, "the layout of mt_test");
+MT_ASSERT(offsetof(struct mt_test, text) == 48, "the layout of mt_test");
+MT_ASSERT(offsetof(struct mt_test, saved) == 496, "the layout of mt_test");
+MT_ASSERT(sizeof(struct mt_access) == 16, "the layout of mt_access");
+MT_ASSERT(sizeof(struct mt_refusal) == 8, "the layout of mt_refusal");
 
 /* The rules of a set-up. Of several that are broken the one with the least number is told. */
-#define MT_SET_UP 0U             /* none is broken */
-#define MT_BAD_WIDTH 1U          /* the width is none of 8, 16, 32 and 64 */
-#define MT_BAD_POLICY 2U         /* the policy is none of the two */
-#define MT_BAD_COUNT 3U          /* no word, or more than MT_WORDS */
-#define MT_BAD_ADDRESSES 4U      /* first + count is 2^32 or more */
-#define MT_BAD_BACKGROUND 5U     /* the background is no word of the width */
-#define MT_BAD_FILL 6U           /* the fill is no word of the width, whatever the policy is */
-#define MT_LONG_TEXT 7U          /* the text has more than MT_TEXT bytes */
-#define MT_TRANSPARENT_FILL 8U   /* transparent-galpat with MT_FILL_WORDS */
-#define MT_MARCH_SPELLING 9U     /* the text is no name, and no march */
-#define MT_MARCH_TOO_LONG 10U    /* more than 16 elements, or 8 operations in one */
-#define MT_MARCH_READS_FIRST 11U /* a read comes before the first write */
-#define MT_MARCH_EXPECTATION 12U /* a read expects what the last write did not write */
-#define MT_MARCH_ONE_VALUE 13U   /* no read expects 0, or none expects 1 */
+#define MT_SET_UP UINT32_C(0)             /* none is broken */
+#define MT_BAD_WIDTH UINT32_C(1)          /* the width is none of 8, 16, 32 and 64 */
+#define MT_BAD_POLICY UINT32_C(2)         /* the policy is none of the two */
+#define MT_BAD_COUNT UINT32_C(3)          /* no word, or more than MT_WORDS */
+#define MT_BAD_ADDRESSES UINT32_C(4)      /* first + count is 2^32 or more */
+#define MT_BAD_BACKGROUND UINT32_C(5)     /* the background is no word of the width */
+#define MT_BAD_FILL UINT32_C(6)           /* the fill is no word of the width, whatever the policy is */
+#define MT_LONG_TEXT UINT32_C(7)          /* the text has more than MT_TEXT bytes */
+#define MT_TRANSPARENT_FILL UINT32_C(8)   /* transparent-galpat with MT_FILL_WORDS */
+#define MT_MARCH_SPELLING UINT32_C(9)     /* the text is no name, and no march */
+#define MT_MARCH_TOO_LONG UINT32_C(10)    /* more than 16 elements, or 8 operations in one */
+#define MT_MARCH_READS_FIRST UINT32_C(11) /* a read comes before the first write */
+#define MT_MARCH_EXPECTATION UINT32_C(12) /* a read expects what the last write did not write */
+#define MT_MARCH_ONE_VALUE UINT32_C(13)   /* no read expects 0, or none expects 1 */
 
-/* What the calls reply. */
-#define MT_READ 1U       /* read the word at access.address, and tell it */
-#define MT_WRITE 2U      /* write access.word to access.address; the answer is not looked at */
-#define MT_PASS 3U       /* it has ended: each checked read answered its word */
-#define MT_FAIL 4U       /* it has ended, or was broken off: a checked read answered another word */
-#define MT_BROKEN_OFF 5U /* it was broken off: no checked read before had answered another word */
-#define MT_NO_WORD 6U    /* the answer is no word of the width; the access is still due */
-#define MT_TOO_LATE 7U   /* it cannot be broken off; it goes on as it was */
-#define MT_SPOILT 8U     /* the state is none of a test; it was left as it was */
+/* What the calls reply. Replies, rules and policies are of one type, uint32_t. */
+#define MT_READ UINT32_C(1)       /* read the word at access.address, and tell it */
+#define MT_WRITE UINT32_C(2)      /* write access.word to access.address; the answer is not looked at */
+#define MT_PASS UINT32_C(3)       /* it has ended: each checked read answered its word */
+#define MT_FAIL UINT32_C(4)       /* it has ended, or was broken off: a checked read answered another word */
+#define MT_BROKEN_OFF UINT32_C(5) /* it was broken off: no checked read before had answered another word */
+#define MT_NO_WORD UINT32_C(6)    /* the answer is no word of the width; the access is still due */
+#define MT_TOO_LATE UINT32_C(7)   /* it cannot be broken off; it goes on as it was */
+#define MT_SPOILT UINT32_C(8)     /* the state is none of a test; it was left as it was */
 
 #ifdef __cplusplus
 extern "C" {
