@@ -72,17 +72,16 @@ fn is_answer(width: Width, access: Access, word: u64) -> bool
     }
 }
 
-/// Whether each word is one of the width.
+/// Whether each word is one of the width. The bits of all words together are a word of it exactly if each word is one.
 fn all_fit(width: Width, words: &[u64]) -> bool
     ensures yes { result ≡ true → All (Fits width) words.now }
     ensures no { All (Fits width) words.now → result ≡ true }
 {
+    let mut joined = 0;
     for word in words {
-        if !fits(width, *word) {
-            return false;
-        }
+        joined |= *word;
     }
-    true
+    fits(width, joined)
 }
 
 impl Moment {
