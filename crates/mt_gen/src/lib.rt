@@ -14,8 +14,8 @@ mod tests;
 
 pub use config::job_config;
 pub use laws::{
-    job_config_is_accepted, lines_are_of_forms, lines_go_on, scripts_are_accepted, scripts_have_20000_lines,
-    summaries_are_sums,
+    job_config_is_accepted, lines_are_of_forms, lines_go_on, scripts_are_accepted,
+    scripts_have_20000_lines, summaries_are_sums,
 };
 pub use lines::ScriptLines;
 pub use source::GenSource;
