@@ -1,10 +1,10 @@
 //! A test as C keeps it.
 
 ghost use Rattle.std.specs.Prelude.{◌≡◌, ◌≢◌, ◌≤◌, ℕ, List, length, take, true, false, ◌&&◌, IfSome, IfNone, IfOk, IfErr, Some, None};
-ghost use Rattle.mt_engine.specs.Setup.{plan_of, refusal_of, IsPlan};
+ghost use Rattle.mt_engine.specs.Setup.{plan_of, IsPlan};
 ghost use Rattle.mt_engine.specs.Testing.{testing, IsTest};
 ghost use Rattle.mt_c.specs.Codes.{refusal_told};
-ghost use Rattle.mt_c.specs.State.{bit, is_policy, is_width, moment_of, policy_of, settings_of, testing_of, text_of, width_of, IsPlanned, IsState};
+ghost use Rattle.mt_c.specs.State.{bit, is_policy, is_width, moment_of, policy_of, settings_of, testing_of, text_of, width_of, IsState};
 
 use crate::codes::MtRefusal;
 use mt_engine::{Moment, Plan, Settings};
@@ -158,26 +158,6 @@ impl MtTest {
     }
 }
 
-/// The plan that C's numbers stand for, if they stand for one.
-#[inline(always)]
-fn read_plan(state: &MtTest) -> Option<Plan>
-    ensures plan { IfSome result (λ plan. plan ≡ plan_of (settings_of state.now.settings) (text_of state.now)) }
-    ensures sound { IfSome result IsPlan }
-    ensures some { IfSome result (λ _. IsPlanned state.now) }
-    ensures none { IfNone result (IsPlanned state.now → ⊥) }
-{
-    if state.length > 448 {
-        return None;
-    }
-    match state.settings.typed() {
-        Ok(settings) => match Plan::read(settings, &state.text[..state.length as usize]) {
-            Ok(plan) => Some(plan),
-            Err(_) => None,
-        },
-        Err(_) => None,
-    }
-}
-
 /// The plan of the test that C's numbers stand for, if they stand for one.
 #[inline(always)]
 pub(crate) fn read_test(state: &MtTest) -> Option<Plan>
@@ -187,10 +167,15 @@ pub(crate) fn read_test(state: &MtTest) -> Option<Plan>
     ensures some { IfSome result (λ _. IsState state.now) }
     ensures none { IfNone result (IsState state.now → ⊥) }
 {
-    let plan = read_plan(state)?;
-    if state.differs > 1 || state.broken > 1 {
+    if state.length > 448 || state.differs > 1 || state.broken > 1 {
         return None;
     }
+    let Ok(settings) = state.settings.typed() else {
+        return None;
+    };
+    let Ok(plan) = Plan::read(settings, &state.text[..state.length as usize]) else {
+        return None;
+    };
     if plan.has_moment(state.moment(), &state.saved) {
         Some(plan)
     } else {
