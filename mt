@@ -1,7 +1,7 @@
 #!/bin/sh
-# The command `mt`: its help, its forms, and the programs that do them. A program is proved and built first, with a line for
-# each crate on standard error, where it is missing or where a source of its crates or the toolchain has changed. Where that
-# fails, what the build said goes to standard error too, and the exit number is 1, which the program `mt_cli` never gives.
+# The command `mt`: its help, its forms, and the programs that do them. If a program is missing, or a source of its crates or the
+# toolchain has changed, it is proved and built first, with a line for each crate on standard error. If that fails, what the build
+# said goes to standard error too, and the exit number is 1, which the program `mt_cli` never gives.
 #
 # With --unproved as the first word, the program is compiled and run with the other words, and nothing is proved or kept.
 set -u
@@ -11,7 +11,7 @@ top=$(CDPATH='' cd -- "$(dirname -- "$0")" && pwd -P) || exit 1
 . "$top/tools/help.sh"
 unproved=
 
-# Takes the place of this shell where nothing is done after the program.
+# Takes the place of this shell, when nothing is left to do after the program.
 become_program() {
     [ -z "$unproved" ] || try_program "$@"
     is_fresh || build || exit 1
@@ -32,7 +32,7 @@ refuse_words() {
     exit 2
 }
 
-# Says in words why a form refused a file, where it ended with this number, and the file can be read once more.
+# Explains why a form refused a file, if it ended with such a number and the file can be read once more.
 explain_refusal() {
     case $1 in
     3 | 4 | 8) [ -f "$2" ] || return 0 ;;
@@ -42,7 +42,7 @@ explain_refusal() {
     shift 2
     use_program mt_desk
     if [ -z "$unproved" ] && ! is_fresh && ! command -v rt >/dev/null; then
-        say 'mt: why it is refused is not said: mt_desk is not built, and no rt is here to build it'
+        say 'mt: no explanation: mt_desk is not built, and there is no rt to build it'
         return 0
     fi
     run_program explain "$1" "$file" >&2 || true
@@ -80,7 +80,7 @@ run_form() {
         set -- "$@" "$1"
         shift
     else
-        say "mt: the words are $(synopsis_of "$1")"
+        say "mt: usage: $(synopsis_of "$1")"
     fi
     refuse_words "$@"
 }
@@ -107,7 +107,7 @@ main() {
     esac
     nearest=$(nearest_form "$form")
     said=
-    [ -z "$form" ] || said="'$form' is no form; "
+    [ -z "$form" ] || said="there is no form '$form'; "
     [ -z "$nearest" ] || said="${said}the nearest is '$nearest'; "
     say "mt: $said./mt --help lists the forms"
     refuse_words "$@"

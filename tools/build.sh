@@ -32,8 +32,8 @@ end_line() {
     if [ -t 2 ]; then printf '%s' "$1" >&2; else printf '%s\n' "$1" >&2; fi
 }
 
-# What became of the crate that the log speaks of, after so many seconds. Where nothing is proved anew, no last line of a
-# proof stands in the log.
+# What became of the crate that the log speaks of, after so many seconds. If nothing is proved anew, the log has no last
+# line of a proof.
 outcome() {
     if ! grep -q '^logic=' "$log"; then
         echo 'kept'
@@ -65,7 +65,7 @@ build() {
     trap 'rm -f "$log" "$began"' EXIT
     of=$(printf '%s\n' "$names" | wc -l)
     side=$(jobs)
-    say "mt: proves and builds $name_of_program first, $of crates, with $side jobs; some $(estimate "$side") minutes where nothing is kept"
+    say "mt: first proves and builds $name_of_program: $of crates, $side jobs; some $(estimate "$side") minutes if nothing is kept"
     number=0 kept=0 start=$(date +%s)
     for crate_name in $names; do
         since=$(date +%s)
@@ -87,10 +87,10 @@ build() {
     note_built "$began" && rm -f "$log" && trap - EXIT
 }
 
-# Compiles and runs the program by `rt try`, in a folder of its own: its status is the program's where its last lines say
-# that it ended. `mt_desk` is told its file, the last of its words, with the whole path.
+# Compiles and runs the program by `rt try`, in a folder of its own: its status is the program's if its last lines say
+# that it ended. `mt_desk` gets its file, the last of its words, with the whole path.
 try_program() {
-    say 'mt: --unproved: nothing is proved of this run; the program is compiled anew, and stops where a check in it fails'
+    say 'mt: --unproved: nothing is proved of this run; the program is compiled anew, and stops when a check in it fails'
     if [ "$name_of_program" = mt_desk ] && [ "$#" -gt 1 ]; then
         words=$#
         while [ "$words" -gt 1 ]; do

@@ -1,5 +1,5 @@
 # shellcheck shell=sh
-# What the script `mt` says of itself: its forms, each with the program that does it, its own words, what it reads on
+# What the script `mt` says about itself: its forms, each with the program that does it, its own words, what it reads from
 # standard input, what it does, and an example.
 forms() {
     cat <<'FORMS'
@@ -8,18 +8,18 @@ check|mt_cli||a job|reads a job, and writes the closing line alone|./mt check jo
 fmt|mt_cli||a job|writes a job in canonical form|./mt fmt jobs/loose.job
 migrate|mt_cli||a job|writes a job in canonical form, in version 2|./mt migrate jobs/first.job
 cut|mt_cli|S T L|a job|cuts a pass over set S into ticks of at most T accesses, for waits of at most L|./mt cut 0 96 47 jobs/first.job
-locate|mt_cli||a slice and its wrong reads|writes the single faults that explain the wrong reads of a slice|./mt locate jobs/located-one.locate
-verify|mt_cli||a job and a trace|writes whether a trace is the job's|./mt verify jobs/same.verify
-soak|mt_cli|NUMBER||replays the generated job with that number, and writes its sums|./mt soak 0
-explain|mt_desk|[FORM] FILE||writes in words why the file is refused|./mt explain jobs/refused-address.job
-generate|mt_desk|FILE FOLDER||writes the tables of a job's configuration in C, into the folder|./mt generate jobs/first.job unit
+locate|mt_cli||a slice and its wrong reads|lists the single faults that explain the wrong reads of a slice|./mt locate jobs/located-one.locate
+verify|mt_cli||a job and a trace|says whether a trace is that of a job|./mt verify jobs/same.verify
+soak|mt_cli|NUMBER||replays the generated job of that number, and writes its sums|./mt soak 0
+explain|mt_desk|[FORM] FILE||explains in words why a file is refused|./mt explain jobs/refused-address.job
+generate|mt_desk|FILE FOLDER||writes a job's configuration as tables in C into the folder|./mt generate jobs/first.job unit
 new|mt_desk|FILE||writes a job to begin with, with a comment on each key|./mt new my.job
-rules|mt_desk|||lists the rules that refuse an input, with their sentences|./mt rules
+rules|mt_desk|||lists the rules by which an input may be refused|./mt rules
 FORMS
 }
 
-# A column of a form's row: 2 the program, 3 its words, 4 what it reads, 5 what it does, 6 an example. Nothing where there
-# is no such form.
+# A column of a form's row: 2 the program, 3 its words, 4 what it reads, 5 what it does, 6 an example. Nothing if there is
+# no such form.
 column_of() {
     forms | awk -F'|' -v form="$1" -v column="$2" '$1 == form { print $column }'
 }
@@ -34,13 +34,13 @@ exit_numbers() {
 Exit numbers:
   0  the whole answer was written
   1  the program could not be built, or a file could not be read or written
-  2  usage: the words are no form
+  2  usage: the command line is none of the forms
   3  bad config: the configuration is refused
   4  bad line: a script line is refused
   5  read fault: the input failed
   6  the output failed
   7  no memory was found
-  8  differs: with verify, the trace is another
+  8  differs: the trace given to verify is not that of the job
 NUMBERS
 }
 
@@ -48,11 +48,11 @@ print_help() {
     cat <<'HELP'
 mt replays jobs over a simulated memory under a RAM test and a flash test.
 
-Usage: ./mt FORM [WORDS] [FILE]     reads FILE, or standard input where no file is named
-       ./mt FORM --help             more of one form
+Usage: ./mt FORM [WORDS] [FILE]     reads FILE, or standard input if none is named
+       ./mt FORM --help             help on one form
        ./mt help [FORM]             the same
        ./mt --version               the versions of the project and of the toolchain
-       ./mt --unproved FORM ..      compiles and runs the form, and proves nothing
+       ./mt --unproved FORM ..      runs the form without proving anything
 
 Forms:
 HELP
@@ -61,7 +61,7 @@ HELP
     exit_numbers
     cat <<'HELP'
 
-Where a form refuses a FILE (3, 4, 8), the reason follows in words on standard error.
+If a form refuses FILE (3, 4, 8), it explains why on standard error.
 The first run proves and builds the program, which takes some 18 minutes on four processors.
 HELP
 }
@@ -70,7 +70,7 @@ HELP
 print_form_help() {
     forms | awk -F'|' -v form="$1" '$1 == form {
         printf "./mt %s%s%s\n    %s\n", $1, $3 == "" ? "" : " " $3, $4 == "" ? "" : " [FILE]", $5
-        if ($4 != "") printf "    FILE, or standard input where no file is named: %s\n", $4
+        if ($4 != "") printf "    FILE, or standard input if none is named: %s\n", $4
         printf "Example:\n    %s\n", $6
     }'
     echo
@@ -82,11 +82,11 @@ print_version() {
     if command -v rt >/dev/null; then
         printf 'toolchain %s\n' "$(rt version)"
     else
-        echo 'toolchain: no rt is here'
+        echo 'toolchain: no rt found'
     fi
 }
 
-# The form whose name takes the fewest edits of letters from a word, at most two; nothing where each takes more.
+# The form whose name takes the fewest edits of letters from a word, at most two; nothing if each takes more.
 nearest_form() {
     forms | awk -F'|' -v word="$1" '
         function least(a, b) { return a < b ? a : b }
