@@ -1,8 +1,8 @@
 /*
  * Tests of memory words in slices, for a caller that makes the accesses.
  *
- * The library never touches the memory under test. It says which access comes next, and is told what a read answered. It
- * allocates nothing and keeps nothing between two calls: all that a test is stands in the caller's `struct mt_test`.
+ * The library never touches the memory under test. It says which access comes next, and the caller passes on what a read
+ * answered. It allocates nothing and keeps nothing between two calls: the whole test is in the caller's `struct mt_test`.
  *
  *     struct mt_access access;
  *     uint32_t reply = mt_due(&test, &access);
@@ -15,11 +15,11 @@
  *         reply = mt_next(&test, answer, &access);
  *     }
  *
- * Interrupts are locked by the caller from the first access to the end of the test, or to that of its breaking off: between
+ * The caller locks interrupts from the first access to the end of the test, or to its last write if it is broken off: between
  * two accesses no one else may touch the words. Each access is to be one volatile access of the memory, and no copy of it.
  *
- * The caller upholds that pointers are good, do not overlap, and point to values that were written; that `length` is that of
- * the text; and that a test is in one call at a time. What they point to may be any numbers: they are looked at, and refused.
+ * The caller has to see to it that pointers are good, do not overlap, and point to values that were written; that `length` is
+ * that of the text; and that a test is in one call at a time. The values may be any numbers: bad ones are refused.
  */
 #ifndef MT_H
 #define MT_H
@@ -93,7 +93,7 @@ MT_ASSERT(offsetof(struct mt_test, saved) == 496, "the layout of mt_test");
 MT_ASSERT(sizeof(struct mt_access) == 16, "the layout of mt_access");
 MT_ASSERT(sizeof(struct mt_refusal) == 8, "the layout of mt_refusal");
 
-/* The rules of a set-up. Of several that are broken the one with the least number is told. */
+/* The rules of a set-up. If several are broken, the one with the least number is reported. */
 #define MT_SET_UP UINT32_C(0)             /* none is broken */
 #define MT_BAD_WIDTH UINT32_C(1)          /* the width is none of 8, 16, 32 and 64 */
 #define MT_BAD_POLICY UINT32_C(2)         /* the policy is none of the two */
@@ -110,7 +110,7 @@ MT_ASSERT(sizeof(struct mt_refusal) == 8, "the layout of mt_refusal");
 #define MT_MARCH_ONE_VALUE UINT32_C(13)   /* no read expects 0, or none expects 1 */
 
 /* What the calls reply. Replies, rules and policies are of one type, uint32_t. */
-#define MT_READ UINT32_C(1)       /* read the word at access.address, and tell it */
+#define MT_READ UINT32_C(1)       /* read the word at access.address, and pass it on */
 #define MT_WRITE UINT32_C(2)      /* write access.word to access.address; the answer is not looked at */
 #define MT_PASS UINT32_C(3)       /* it has ended: each checked read answered its word */
 #define MT_FAIL UINT32_C(4)       /* it has ended, or was broken off: a checked read answered another word */
@@ -125,23 +125,23 @@ extern "C" {
 
 /*
  * Sets a test up. `text` is a name (checkerboard, walk-path, galpat, transparent-galpat, march-c-minus, mats-plus) or a march,
- * as "{*(w0); u(r0,w1); d(r1,w0)}". Where a rule is broken, `test` is left as it was.
+ * as "{*(w0); u(r0,w1); d(r1,w0)}". If a rule is broken, `test` is left as it was.
  */
 struct mt_refusal mt_set_up(struct mt_test *test, const struct mt_settings *settings, const char *text, size_t length);
 
-/* Tells the access that is due, or how the test has ended. The test stays as it is. */
+/* Gives the access that is due, or says how the test has ended. The test stays as it is. */
 uint32_t mt_due(const struct mt_test *test, struct mt_access *access);
 
-/* Takes in what the access that was due answered, and tells the next one, or how the test has ended. */
+/* Takes what the access that was due answered, and gives the next one, or says how the test has ended. */
 uint32_t mt_next(struct mt_test *test, uint64_t answer, struct mt_access *access);
 
 /* Whether the test may be broken off now: 1, or 0. It may while it keeps the words, up to the writes that end it. */
 uint32_t mt_may_break_off(const struct mt_test *test);
 
 /*
- * Breaks the test off, and tells the first of the writes of the saved words, or MT_BROKEN_OFF if nothing was written yet.
- * `mt_next` tells the others, and then MT_FAIL if a checked read had answered another word, else MT_BROKEN_OFF. The caller
- * makes these writes: no reply says that the memory took them. A test that was broken off is set up anew to be tried again.
+ * Breaks the test off, and gives the first of the writes of the saved words, or MT_BROKEN_OFF if nothing was written yet.
+ * `mt_next` gives the others, and then MT_FAIL if a checked read had answered another word, else MT_BROKEN_OFF. The caller
+ * makes these writes: no reply says that the memory took them. To try a test that was broken off again, set it up anew.
  */
 uint32_t mt_break_off(struct mt_test *test, struct mt_access *access);
 

@@ -84,7 +84,7 @@ static void spoilt(void) {
     test = good, test.differs = 2;
     expect("a spoilt verdict", mt_due(&test, &access) == MT_SPOILT);
     test = good, test.made = 3, test.broken = 1;
-    expect("broken off where it cannot be", mt_due(&test, &access) == MT_SPOILT);
+    expect("broken off when it cannot be", mt_due(&test, &access) == MT_SPOILT);
     test = good, test.made = 1, test.saved[0] = 256;
     expect("a spoilt word", mt_due(&test, &access) == MT_SPOILT && mt_accesses(&test) == 0 && !mt_may_break_off(&test));
     expect("the access stays", access.word == 7 && access.address == 9);

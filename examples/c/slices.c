@@ -10,7 +10,7 @@
 
 static volatile uint32_t ram[WORDS];
 
-/* A defect of the simulated RAM: a bit of a word that reads as 1, whatever was written. None has the address WORDS. */
+/* A defect of the simulated RAM: a bit of a word that reads as 1, whatever was written. The address WORDS stands for no defect. */
 static uint32_t stuck_address = WORDS, stuck_bit;
 
 /* Whether interrupts are locked, and after how many accesses an urgent one asks. */
@@ -36,7 +36,7 @@ static uint64_t make(uint32_t reply, const struct mt_access *access) {
 
 static int is_access(uint32_t reply) { return reply == MT_READ || reply == MT_WRITE; }
 
-/* Tests a slice under one lock, and breaks it off where an urgent interrupt asks. */
+/* Tests a slice under one lock, and breaks it off when an urgent interrupt asks. */
 static uint32_t test_slice(uint32_t first) {
     static const char march[] = "march-c-minus";
     struct mt_settings settings = {.width = 32, .policy = MT_KEEP_WORDS, .first = first, .count = SLICE};
@@ -54,7 +54,7 @@ static uint32_t test_slice(uint32_t first) {
     return reply;
 }
 
-/* The application: it counts in each word, and looks whether the words are those that it wrote. */
+/* The application: it writes a new value to each word, and checks that the words are those that it wrote. */
 static uint32_t model[WORDS];
 
 static void application(void) {
