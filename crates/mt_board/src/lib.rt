@@ -2,8 +2,12 @@
 #![tactic(auto)]
 
 mod board;
+mod deeds;
 mod stores;
 #[cfg(test)]
 mod tests;
+mod watched;
 
 pub use board::SimBoard;
+pub use deeds::{Deed, Deeds};
+pub use watched::Watched;

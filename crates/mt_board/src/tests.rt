@@ -6,7 +6,7 @@ ghost use Rattle.mt_port.specs.Board.{AreSoundRequests};
 ghost use Rattle.mt_port.specs.declared.board.Shape.{Shape};
 ghost use Rattle.mt_board.specs.Board.{sim_state};
 
-use crate::SimBoard;
+use crate::{Deed, Deeds, SimBoard, Watched};
 use arrayvec::ArrayVec;
 use mt_fault::{Fault, FaultRefusal, Spot};
 use mt_port::{Answer, AppOp, Bench, Port, Request, Shape, Touch};
@@ -88,6 +88,40 @@ fn a_tape_tells_256_accesses(rt: HostRuntime) -> Result<(), Fail> {
         }]
         .as_slice())
     );
+    Ok(())
+}
+
+#[test]
+fn a_watched_board_lists_the_first_deeds(rt: HostRuntime) -> Result<(), Fail> {
+    let deeds = Deeds::new(rt.alloc(), 4)?;
+    let mut board = Watched::new(SimBoard::with_defect(stuck(3)), deeds);
+    board.power_up(rt.alloc(), SMALL, 0x40)?;
+    board.hold();
+    assert_eq!(rt; board.read(3), 0x41);
+    board.write(4, 0x55);
+    assert_eq!(rt; board.left_out(), 0);
+    board.release();
+    board.heal();
+    assert_eq!(rt;
+        board.deeds(),
+        [
+            Deed::PowerUp {
+                shape: SMALL,
+                initial: 0x40
+            },
+            Deed::Hold,
+            Deed::Read {
+                addr: 3,
+                word: 0x41
+            },
+            Deed::Write {
+                addr: 4,
+                word: 0x55
+            },
+        ]
+        .as_slice()
+    );
+    assert_eq!(rt; board.left_out(), 2);
     Ok(())
 }
 
