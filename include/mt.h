@@ -82,7 +82,7 @@ struct mt_access {
 /* Why no test was set up: the number of the rule, and of a march the place in its text, counted in bytes from 1. */
 struct mt_refusal {
     uint32_t rule;
-    uint32_t place;
+    size_t place;
 };
 
 MT_ASSERT(sizeof(size_t) == 8, "the length of a text has 64 bits");
@@ -91,7 +91,7 @@ MT_ASSERT(sizeof(struct mt_test) == MT_TEST_SIZE, "the layout of mt_test");
 MT_ASSERT(offsetof(struct mt_test, text) == 48, "the layout of mt_test");
 MT_ASSERT(offsetof(struct mt_test, saved) == 496, "the layout of mt_test");
 MT_ASSERT(sizeof(struct mt_access) == 16, "the layout of mt_access");
-MT_ASSERT(sizeof(struct mt_refusal) == 8, "the layout of mt_refusal");
+MT_ASSERT(sizeof(struct mt_refusal) == 16, "the layout of mt_refusal");
 
 /* The rules of a set-up. If several are broken, the one with the least number is reported. */
 #define MT_SET_UP UINT32_C(0)             /* none is broken */

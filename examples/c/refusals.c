@@ -8,7 +8,8 @@ struct row {
     const char *title;
     struct mt_settings settings;
     const char *text;
-    uint32_t rule, place;
+    uint32_t rule;
+    size_t place;
 };
 
 static const struct row rows[] = {

@@ -20,7 +20,7 @@ pub struct MtAccess {
 #[derive(Clone, Copy)]
 pub struct MtRefusal {
     pub rule: u32,
-    pub place: u32,
+    pub place: usize,
 }
 
 /// What a call answers.

@@ -35,7 +35,7 @@ pub enum ConfigRefusal {
     March {
         set: u32,
         kind: MarchKind,
-        place: u32,
+        place: usize,
     },
     TransparentDestructive,
     BlockRange,

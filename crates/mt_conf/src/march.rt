@@ -10,24 +10,16 @@ ghost use Rattle.mt_conf.specs.Outcome.{march_with, march_of_set, refused_in_set
 use crate::config::ConfigRefusal;
 use crate::lookup::{array_at, has_key, text_at};
 use mt_march::{March, MarchRefusal, read_march};
-use mt_word::NoMemory;
 use std::alloc::AllocError;
 use toml::{Table, Value};
 
-/// The most bytes of a configuration, of which the text of a march is a part.
-const MOST_BYTES: usize = 65_536;
-
-/// Why a text is no march, if it is none. A text that is longer than a configuration, which none is, is want of memory.
-fn march_refusal(text: &str) -> Result<Option<MarchRefusal>, NoMemory>
-    ensures { IfOk result (λ r. r ≡ march_refusal text.now) }
+/// Why a text is no march, if it is none.
+fn march_refusal(text: &str) -> Option<MarchRefusal>
+    ensures { result ≡ march_refusal text.now }
 {
-    let bytes = text.as_bytes();
-    if bytes.len() > MOST_BYTES {
-        return Err(NoMemory);
-    }
-    match read_march(bytes) {
-        Ok(_) => Ok(None),
-        Err(refusal) => Ok(Some(refusal)),
+    match read_march(text.as_bytes()) {
+        Ok(_) => None,
+        Err(refusal) => Some(refusal),
     }
 }
 
@@ -35,11 +27,7 @@ fn march_refusal(text: &str) -> Result<Option<MarchRefusal>, NoMemory>
 pub fn march_of(text: &str) -> Result<March, AllocError>
     ensures { IfOk result (λ march. march ≡ march_with (march_of text.now)) }
 {
-    let bytes = text.as_bytes();
-    if bytes.len() > MOST_BYTES {
-        return Err(AllocError);
-    }
-    match read_march(bytes) {
+    match read_march(text.as_bytes()) {
         Ok(march) => Ok(march),
         Err(_) => Err(AllocError),
     }
@@ -59,35 +47,35 @@ fn refusal_of(set: u32, refusal: Option<MarchRefusal>) -> Option<ConfigRefusal>
 }
 
 #[tactic(auto, unfolding(crate::specs::Outcome::refused_in_set))]
-fn refused_in_set(set: u32, table: &Table) -> Result<Option<ConfigRefusal>, NoMemory>
-    ensures { IfOk result (λ r. r ≡ refused_in_set set (table_view table.now)) }
+fn refused_in_set(set: u32, table: &Table) -> Option<ConfigRefusal>
+    ensures { result ≡ refused_in_set set (table_view table.now) }
 {
-    if !has_key(table, "march") {
-        return Ok(None);
+    if has_key(table, "march") {
+        refusal_of(set, march_refusal(text_at(table, "march")))
+    } else {
+        None
     }
-    let refusal = march_refusal(text_at(table, "march"))?;
-    Ok(refusal_of(set, refusal))
 }
 
 #[tactic(auto, unfolding(crate::specs::Outcome::refused_in_set))]
-fn refused_at(set: u32, value: &Value) -> Result<Option<ConfigRefusal>, NoMemory>
-    ensures { IfOk result (λ r. r ≡ refused_in_set set (fields (view value.now))) }
+fn refused_at(set: u32, value: &Value) -> Option<ConfigRefusal>
+    ensures { result ≡ refused_in_set set (fields (view value.now)) }
 {
     match value.as_table() {
         Some(table) => refused_in_set(set, table),
-        None => Ok(None),
+        None => None,
     }
 }
 
 /// The first set, of those from this number on, whose march is refused.
-fn refused_from(set: u32, values: &[Value]) -> Result<Option<ConfigRefusal>, NoMemory>
+fn refused_from(set: u32, values: &[Value]) -> Option<ConfigRefusal>
     requires { set + length values.now ≤ 16 }
-    ensures { IfOk result (λ r. r ≡ refused_from set (map view values.now)) }
+    ensures { result ≡ refused_from set (map view values.now) }
 {
     match values {
-        [] => Ok(None),
-        [value, rest @ ..] => match refused_at(set, value)? {
-            Some(refusal) => Ok(Some(refusal)),
+        [] => None,
+        [value, rest @ ..] => match refused_at(set, value) {
+            Some(refusal) => Some(refusal),
             None => refused_from(set + 1, rest),
         },
     }
@@ -95,9 +83,9 @@ fn refused_from(set: u32, values: &[Value]) -> Result<Option<ConfigRefusal>, NoM
 
 /// The first refused march of a table with at most 16 sets.
 #[tactic(auto, unfolding(crate::specs::Outcome::refused_march))]
-pub fn refused_march(table: &Table) -> Result<Option<ConfigRefusal>, NoMemory>
+pub fn refused_march(table: &Table) -> Option<ConfigRefusal>
     requires { length (array_at (codes "set") (table_view table.now)) ≤ 16 }
-    ensures { IfOk result (λ r. r ≡ refused_march (table_view table.now)) }
+    ensures { result ≡ refused_march (table_view table.now) }
 {
     refused_from(0, array_at(table, "set"))
 }

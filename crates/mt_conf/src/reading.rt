@@ -80,15 +80,13 @@ fn broken_after_march(table: &Table) -> Option<ConfigRefusal>
 /// Refuses a table that breaks a rule, by the least.
 fn check(table: &Table) -> Result<(), ConfigRefusal>
     ensures ok { IfOk result (λ _. first_broken (table_view table.now) ≡ None) }
-    ensures err { IfErr result (λ e. e ≢ ConfigRefusal.NoMemory → first_broken (table_view table.now) ≡ Some e) }
+    ensures err { IfErr result (λ e. first_broken (table_view table.now) ≡ Some e) }
 {
     if let Some(refusal) = broken_before_march(table) {
         return Err(refusal);
     }
-    match refused_march(table) {
-        Ok(None) => {}
-        Ok(Some(refusal)) => return Err(refusal),
-        Err(_) => return Err(ConfigRefusal::NoMemory),
+    if let Some(refusal) = refused_march(table) {
+        return Err(refusal);
     }
     match broken_after_march(table) {
         Some(refusal) => Err(refusal),

@@ -12,7 +12,7 @@ use std::alloc::{AllocError, Global};
 pub struct RefusedMarch<'a> {
     pub set: u32,
     pub kind: u8,
-    pub place: u32,
+    pub place: usize,
     pub text: &'a [u8],
 }
 
@@ -21,7 +21,7 @@ impl<'a> RefusedMarch<'a> {
     fn index(self) -> usize
         ensures { result ≤ length self.entry.text.now }
     {
-        self.text.len().min((self.place as usize).saturating_sub(1))
+        self.text.len().min(self.place.saturating_sub(1))
     }
 
     // What stands before the place, and from it on.
@@ -117,7 +117,7 @@ pub fn march_note(
     if let Some(spot) = find_spot(file, path, Target::Value("march")) {
         // After the quote. With escapes, the value as a whole is marked.
         let plain = spot.length == march.text.len().saturating_add(2);
-        let offset = if plain { march.place as usize } else { 0 };
+        let offset = if plain { march.place } else { 0 };
         note.mark = Some(Mark {
             line: spot.mark.line,
             column: spot.mark.column.saturating_add(offset),

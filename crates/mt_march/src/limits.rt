@@ -14,13 +14,12 @@ pub fn first(text: &[u8]) -> u8
 }
 
 /// The place of the first read, where no write stands before it.
-pub fn read_before_write(text: &[u8]) -> Option<u32>
-    requires { length text.now < 65537 }
+pub fn read_before_write(text: &[u8]) -> Option<usize>
     ensures { result ≡ read_before_write 1 text.now }
 {
     for (i, byte) in text.iter().enumerate() {
         match *byte {
-            b'r' => return Some(i as u32 + 1),
+            b'r' => return Some(i + 1),
             b'w' => return None,
             _ => {}
         }
@@ -29,8 +28,7 @@ pub fn read_before_write(text: &[u8]) -> Option<u32>
 }
 
 /// The place of the first read whose digit isn't that of the last write.
-pub fn wrong_expectation(text: &[u8]) -> Option<u32>
-    requires { length text.now < 65537 }
+pub fn wrong_expectation(text: &[u8]) -> Option<usize>
     ensures { result ≡ wrong_expectation 1 0 text.now }
 {
     let mut written = 0;
@@ -40,7 +38,7 @@ pub fn wrong_expectation(text: &[u8]) -> Option<u32>
         if *byte == b'w' {
             written = digit;
         } else if *byte == b'r' && digit != written {
-            return Some(i as u32 + 1);
+            return Some(i + 1);
         }
     }
     None
@@ -59,21 +57,19 @@ pub fn has_read(text: &[u8], digit: u8) -> bool
 }
 
 /// The place of the closing brace.
-pub fn close_place(text: &[u8]) -> u32
-    requires { length text.now < 65537 }
+pub fn close_place(text: &[u8]) -> usize
     ensures { result ≡ close_place 1 text.now }
 {
     for (i, byte) in text.iter().enumerate() {
         if *byte == b'}' {
-            return i as u32 + 1;
+            return i + 1;
         }
     }
-    text.len() as u32 + 1
+    text.len() + 1
 }
 
 /// The place of the first element or operation too many.
-pub fn too_long(text: &[u8]) -> Option<u32>
-    requires { length text.now < 65537 }
+pub fn too_long(text: &[u8]) -> Option<usize>
     ensures { result ≡ too_long 1 0 0 text.now }
 {
     let mut elements = 0u32;
@@ -82,14 +78,14 @@ pub fn too_long(text: &[u8]) -> Option<u32>
         match *byte {
             b'u' | b'd' | b'*' => {
                 if elements == 16 {
-                    return Some(i as u32 + 1);
+                    return Some(i + 1);
                 }
                 elements += 1;
                 ops = 0;
             }
             b'r' | b'w' => {
                 if ops == 8 {
-                    return Some(i as u32 + 1);
+                    return Some(i + 1);
                 }
                 ops += 1;
             }

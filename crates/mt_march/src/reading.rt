@@ -121,7 +121,7 @@ fn build(text: &[u8]) -> ArrayVec<Element, 16>
     finish(builder)
 }
 
-fn refusal(kind: MarchKind, place: u32) -> MarchRefusal
+fn refusal(kind: MarchKind, place: usize) -> MarchRefusal
     ensures { result ≡ record { kind = kind; place = place } }
 {
     MarchRefusal { kind, place }
@@ -130,7 +130,6 @@ fn refusal(kind: MarchKind, place: u32) -> MarchRefusal
 /// The first of the rules on a text of the grammar that is broken.
 #[tactic(auto, unfolding(crate::specs::Scan::rule_found))]
 fn rule_broken(text: &[u8]) -> Option<MarchRefusal>
-    requires { length text.now < 65537 }
     ensures { result ≡ rule_found text.now }
 {
     if let Some(place) = too_long(text) {
@@ -150,7 +149,6 @@ fn rule_broken(text: &[u8]) -> Option<MarchRefusal>
 
 /// Reads a march, or answers the least rule that is broken with its place.
 pub fn read_march(text: &[u8]) -> Result<March, MarchRefusal>
-    requires { length text.now < 65537 }
     ensures ok { IfOk result (λ march. SpellsMarch text.now march.elements.items) }
     ensures accepted { IfOk result (λ march. IsAcceptedMarch march.elements.items) }
     // A refusal is that of the least broken rule, at its place.

@@ -65,19 +65,18 @@ fn next(expects: Expects, byte: u8) -> Option<Expects>
 }
 
 /// The place of the first fault of spelling.
-pub fn spelling_fault(text: &[u8]) -> Option<u32>
-    requires { length text.now < 65537 }
+pub fn spelling_fault(text: &[u8]) -> Option<usize>
     ensures { result ≡ fault Brace 1 text.now }
 {
     let mut expects = Expects::Brace;
     for (i, byte) in text.iter().enumerate() {
         match next(expects, *byte) {
             Some(after) => expects = after,
-            None => return Some(i as u32 + 1),
+            None => return Some(i + 1),
         }
     }
     match expects {
         Expects::Nothing => None,
-        _ => Some(text.len() as u32 + 1),
+        _ => Some(text.len() + 1),
     }
 }

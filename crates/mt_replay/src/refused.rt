@@ -10,7 +10,7 @@ use mt_conf::ConfigRefusal;
 #[derive(Clone, Copy, Debug, PartialEq, Eq)]
 pub enum Refused {
     Rule(u8),
-    March { set: u32, kind: u8, place: u32 },
+    March { set: u32, kind: u8, place: usize },
 }
 
 /// The refusal of a configuration as it is told.

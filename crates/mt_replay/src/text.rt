@@ -87,16 +87,17 @@ fn rule_text(code: u8) -> Text
 }
 
 // The line of a refused march.
-fn march_text(set: u32, kind: u8, place: u32) -> Text
+fn march_text(set: u32, kind: u8, place: usize) -> Text
     ensures { result.items ≡ bad_config_text (Refused.March set kind place) }
 {
+    let mut buffer = Buffer::new();
     let mut text = ArrayVec::new();
     push_bytes(&mut text, b"bad config 11 ");
     push_number(&mut text, set);
     push_bytes(&mut text, b" ");
     push_number(&mut text, u32::from(kind));
     push_bytes(&mut text, b" ");
-    push_number(&mut text, place);
+    push_bytes(&mut text, buffer.format(place).as_bytes());
     push_bytes(&mut text, b"\n");
     text
 }
