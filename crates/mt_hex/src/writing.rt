@@ -20,14 +20,27 @@ pub fn push_bytes<const N: usize>(out: &mut ArrayVec<u8, N>, bytes: &[u8])
     }
 }
 
-/// Appends a number in decimal digits.
-pub fn push_number<const N: usize>(out: &mut ArrayVec<u8, N>, n: u32)
+// Appends a number of any length.
+fn push_long_number<const N: usize>(out: &mut ArrayVec<u8, N>, n: u32)
     requires { length out.old.items + 10 ≤ N }
     ensures text { out.new.items ≡ out.old.items ++ decimal n }
     ensures short { length out.new.items ≤ length out.old.items + 10 }
 {
     let mut buffer = Buffer::new();
     push_bytes(out, buffer.format(n).as_bytes());
+}
+
+/// Appends a number in decimal digits.
+pub fn push_number<const N: usize>(out: &mut ArrayVec<u8, N>, n: u32)
+    requires { length out.old.items + 10 ≤ N }
+    ensures text { out.new.items ≡ out.old.items ++ decimal n }
+    ensures short { length out.new.items ≤ length out.old.items + 10 }
+{
+    if n < 10 {
+        out.push(b'0' + n as u8);
+    } else {
+        push_long_number(out, n);
+    }
 }
 
 fn digit_byte(digit: u8) -> u8
