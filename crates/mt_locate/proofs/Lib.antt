@@ -20,3 +20,7 @@ pub mod BitsDecide
 pub mod Unmissed
 pub mod Classes
 pub mod LaneBits
+pub mod LineChains
+pub mod LineStages
+pub mod SliceStages
+pub mod LinesRead

@@ -7,4 +7,5 @@ pub mod Listed
 pub mod Order
 pub mod Lanes
 pub mod LocateLines
+pub mod LineRules
 pub mod Inner

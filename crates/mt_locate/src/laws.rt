@@ -3,6 +3,7 @@
 ghost use Rattle.mt_locate.specs.Explanations.{MissesAreThoseOfTheMemory};
 ghost use Rattle.mt_locate.specs.Listed.{ExplainsIsTested, FaultsAreListedOnce, FaultsOfTheSliceAreListed};
 ghost use Rattle.mt_locate.specs.Lanes.{BitsDecide};
+ghost use Rattle.mt_locate.specs.LineRules.{MissLinesAreExact, MissRefusalsAreLeast, SliceLinesAreExact, SliceRefusalsAreLeast};
 ghost use Rattle.mt_locate.specs.Moved.{FaultsStayWellPlaced};
 ghost use Rattle.mt_locate.specs.Order.{FaultsAreInOrder};
 ghost use Rattle.mt_locate.specs.Suspects.{CulpritsAreSuspects, FirstMissTellsWhatIsSeen};
@@ -72,3 +73,16 @@ pub fn bits_decide()
     plans_are_steady();
     faults_of_a_slice_stay_well_placed();
 }
+
+/// A text is read as a line `slice S B J` or `miss I WORD` exactly where it is one: the fixed word, the numbers, and what they
+/// name.
+pub fn lines_are_exact()
+    ensures slices { SliceLinesAreExact }
+    ensures misses { MissLinesAreExact }
+{}
+
+/// A line that is refused tells the least rule that its first wrong token breaks, at that token's place.
+pub fn refused_lines_tell_the_least_rule()
+    ensures slices { SliceRefusalsAreLeast }
+    ensures misses { MissRefusalsAreLeast }
+{}

@@ -24,7 +24,8 @@ pub use explain::explains;
 pub use laws::{
     bits_decide, culprits_are_suspects, explaining_is_tested, faults_are_listed_in_order,
     faults_are_listed_once, faults_of_a_slice_stay_well_placed, faults_of_the_slice_are_listed,
-    first_miss_tells_what_is_seen, misses_are_those_of_the_memory,
+    first_miss_tells_what_is_seen, lines_are_exact, misses_are_those_of_the_memory,
+    refused_lines_tell_the_least_rule,
 };
 pub use list::list_faults;
 pub use miss_line::read_miss;
