@@ -11,8 +11,10 @@ cut|mt_cli|S T L|a job|cuts a pass over set S into ticks of at most T accesses, 
 locate|mt_cli||a slice and its wrong reads|lists the single faults that explain the wrong reads of a slice|./mt locate jobs/located-one.locate
 verify|mt_cli||a job and a trace|says whether a trace is that of a job|./mt verify jobs/same.verify
 soak|mt_cli|NUMBER||replays the generated job of that number, and writes its sums|./mt soak 0
+accesses|mt_desk|[--line N] FILE||replays a job, and writes its trace with the accesses of each line, or of line N|./mt accesses jobs/first.job
 explain|mt_desk|[FORM] FILE||explains in words why a file is refused|./mt explain jobs/refused-address.job
 generate|mt_desk|FILE FOLDER||writes a job's configuration as tables in C into the folder|./mt generate jobs/first.job unit
+picture|mt_desk|[--lines A-B] FILE||replays a job, and writes a page with pictures of its memory, its events and its trace|./mt picture jobs/urgent.job
 new|mt_desk|FILE||writes a job to begin with, with a comment on each key|./mt new my.job
 rules|mt_desk|||lists the rules by which an input may be refused|./mt rules
 FORMS

@@ -20,8 +20,8 @@ const MOST_BYTES: usize = 65_536;
 /// The most bytes of a configuration's canonical text: sixteen sets of 64 blocks, and 128 flash blocks.
 const MOST_TEXT: usize = 262_144;
 
-// The configuration of a job: its bytes up to the separator, or all where there is none.
-fn config_bytes(job: &[u8]) -> &[u8] {
+/// The configuration of a job: its bytes up to the separator, or all where there is none.
+pub fn config_bytes(job: &[u8]) -> &[u8] {
     let mut start = 0;
     for line in job.split(|byte| *byte == b'\n') {
         if line == SEPARATOR {

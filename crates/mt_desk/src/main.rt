@@ -1,10 +1,19 @@
 //! The program `mt_desk`: what people ask for before and after a replay.
 #![tactic(auto)]
 
+mod accesses;
+mod chart;
+mod deed_text;
 mod explain;
 mod generate;
+mod listing;
+mod map;
 mod new;
+mod parts;
+mod picture;
+mod place;
 mod rules;
+mod sight;
 mod task;
 
 use anyhow::Result;
@@ -16,8 +25,10 @@ use task::{Task, command, task_of};
 // Does a task: one arm, and one file, for each.
 fn perform<R: Runtime + AllocGlobal>(rt: &R, task: Task<'_>) -> Result<ExitCode> {
     match task {
+        Task::Accesses { file, line } => accesses::list_accesses(rt, file, line),
         Task::Explain { form, file } => explain::explain_file(rt, form, file),
         Task::Generate { file, folder } => generate::generate(rt, file, folder),
+        Task::Picture { file, lines } => picture::draw_picture(rt, file, lines),
         Task::New { file } => new::write_job(rt, file),
         Task::Rules => rules::list_rules(rt),
         Task::Nothing => Ok(ExitCode::from(2)),
