@@ -44,6 +44,11 @@ pub fn is_operation(event: Event) -> bool {
     )
 }
 
+/// The number that a word spells, if there is a word.
+pub fn number_in(word: Option<&[u8]>) -> Option<u32> {
+    number_of(word?)
+}
+
 /// The number after a word, if the text begins with it.
 pub fn number_after(text: &[u8], word: &[u8]) -> Option<u32> {
     let rest = text.strip_prefix(word)?;
@@ -172,7 +177,7 @@ impl<'a, W: Write + Drop> Listing<'a, W> {
             self.handler = number.saturating_sub(1) as usize;
             self.done = 0;
             let mut words = entry.split(|byte| *byte == b' ').skip(3);
-            return self.list_up_to(words.next().and_then(number_of).unwrap_or(0));
+            return self.list_up_to(number_in(words.next()).unwrap_or(0));
         }
         if entry.starts_with(b"- ") {
             return self.list_handler(line);

@@ -2,7 +2,7 @@
 
 use crate::accesses::{config_of, numbered, read_script_line, script_of};
 use crate::chart::Chart;
-use crate::listing::{is_operation, number_after, runs};
+use crate::listing::{is_operation, number_after, number_in, runs};
 use crate::map::draw_map;
 use crate::parts::{Attempt, add_parts};
 use crate::place::Blocks;
@@ -16,7 +16,7 @@ use mt_draw::{
 };
 use mt_port::{MemSink, PlainSource};
 use mt_replay::{exit_number, replay};
-use mt_text::{Line, number_of};
+use mt_text::Line;
 use std::alloc::Global;
 use std::fs;
 use std::io::{self, Write};
@@ -157,7 +157,7 @@ impl Served {
     fn take(&mut self, entry: &[u8]) -> Result<()> {
         if let Some(number) = number_after(entry, b"irq ") {
             let mut words = entry.split(|byte| *byte == b' ').skip(3);
-            let place = words.next().and_then(number_of).unwrap_or(0);
+            let place = number_in(words.next()).unwrap_or(0);
             self.items.push((number, place))?;
         }
         Ok(())

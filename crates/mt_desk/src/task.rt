@@ -1,8 +1,8 @@
 //! What the words ask for.
 
+use crate::listing::number_in;
 use crate::picture::Range;
 use clap::{Arg, ArgMatches, Command, value_parser};
-use mt_text::number_of;
 use std::alloc::{AllocError, Global};
 
 /// What is asked for: a variant, a subcommand in `command` and an arm of `task_of` for each. `Nothing` is asked for by
@@ -82,10 +82,10 @@ fn range_of(text: Option<&str>) -> Range {
         };
     };
     let mut ends = text.as_bytes().split(|byte| *byte == b'-');
-    let first = ends.next().and_then(number_of).unwrap_or(u32::MAX);
+    let first = number_in(ends.next()).unwrap_or(u32::MAX);
     Range {
         first,
-        last: ends.next().and_then(number_of).unwrap_or(first),
+        last: number_in(ends.next()).unwrap_or(first),
     }
 }
 
