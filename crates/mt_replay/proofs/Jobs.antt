@@ -1,13 +1,14 @@
 -- From the configuration and the script to the job.
-use Rattle.std.proofs.Common.{ℕ, ◌+◌, ◌≡◌, List, [], ◌∷◌, ◌++◌, length, Option, Some, None, ◌⊎◌, inl, inr, refl, sym, ap, ◌∙◌, subst, arith, append_assoc, append-nil}
+use Rattle.std.proofs.Common.{ℕ, ◌+◌, ◌≡◌, List, [], ◌∷◌, ◌++◌, length, take, ◌≤◌, Option, Some, None, ◌⊎◌, inl, inr, refl, sym, ap, ◌∙◌, subst, arith, append_assoc}
 use Rattle.std.proofs.lemmas.Bool.{lt-leb, lt-ltb}
+use Rattle.std.proofs.lemmas.List.{take_all}
 use Rattle.std.specs.Io.KnownBytes.{prepend_known, Appends}
 use Rattle.mt_port.specs.Causes.{Rose}
 use Rattle.mt_port.specs.Streams.{WhereTold, AppendsFront}
 use Rattle.mt_port.specs.Board.{Board, Logs, powered_up}
 use Rattle.mt_port.specs.declared.board.Shape.{Shape}
 use Rattle.mt_port.specs.declared.board.Touch.{Touch}
-use Rattle.mt_port.specs.Inner.Streams.{Appends-trans, AppendsFront-after, WhereTold-map}
+use Rattle.mt_port.specs.Inner.Streams.{Appends-trans, AppendsFront-after, AppendsFront-more, WhereTold-map}
 use Rattle.mt_fault.specs.declared.fault.Fault.{Fault as MemoryFault}
 use Rattle.mt_blocks.specs.declared.config.ParamSet.{ParamSet}
 use Rattle.mt_text.specs.declared.line.Line.{Line}
@@ -30,12 +31,13 @@ use Rattle.mt_replay.specs.Inner.Head.{Parts, EndsWith, Exceeds, HeadBreaks, IsT
 use Rattle.mt_machine.specs.Machine.{Machine, started, Play}
 use Rattle.mt_replay.specs.Script.{Script, ended, led_by, script_from}
 use Rattle.mt_replay.specs.Cut.{chosen_text}
-use Rattle.mt_replay.specs.Outcome.{Outcome, configured, judged_job, steps_touches, bad_config_text, rule_number, play_of, after_of, lines_text, opening_text, closing_text, end_text, end_status, bad_config, said, read_fault_text, scripted, outcome}
-use Rattle.mt_replay.specs.Changes.{Change, change, UsesBoard}
-use Rattle.mt_replay.specs.Inner.Runs.{outputs, place, Answered, EndsAt, BeginsWith, EndCaused}
+use Rattle.mt_replay.specs.Outcome.{Outcome, Moment, at_the_end, configured, judged_job, steps_touches, bad_config_text, rule_number, play_of, after_of, lines_text, opening_text, closing_text, end_text, end_status, bad_config, said, read_fault_text, scripted, outcome}
+use Rattle.mt_replay.specs.Changes.{Change, change, IsWritten, UsesBoard}
+use Rattle.mt_replay.specs.Inner.Runs.{outputs, place, Answered, EndsAt, Stops, EndCaused}
 use Rattle.mt_replay.specs.Inner.Jobs.{Given, TellsRefusals, IsFound, HasBehind, FoundGives, Begins, BeginsEmpty, HeadFails, HasSet, IsTask, closing_of, task_end, BeginsAs, IsBegun, BeginFails}
-use Rattle.mt_replay.specs.Replay.{Outcomes, outcomes, BoardIs, Concluded, TakenGive, JobGives, StatusCaused, Told, Stood, CompletesBy}
+use Rattle.mt_replay.specs.Replay.{Outcomes, outcomes, BoardIs, Concluded, TakenGive, IsDoneSoFar, JobGives, StatusCaused, Told, Stood, CompletesBy}
 use Rattle.mt_replay.proofs.Plays.{lines_text-append}
+use Rattle.mt_replay.proofs.Runs.{front_begun, written_then, written_more}
 
 -- what is left before and between, and between and after
 pub told_through : (a b : Option (List ℕ)) (held : List ℕ) (left : Option (List ℕ)) {P : List ℕ → List ℕ → Type 0} (Q : List ℕ → List ℕ → Type 0) {R : List ℕ → List ℕ → Type 0}
@@ -114,9 +116,10 @@ outcome-is form ending defect bytes = refl
 
 -- a text that was to be written after another
 pub told_after : (result how : Status) (text more : List ℕ) (a b d : Option (List ℕ)) (k k' : ℕ) → Appends a b text → Told result how more b d k k'
-    → ((result ≡ how) × Appends a d (text ++ more)) ⊎ ((result ≡ status.WriteFault) × AppendsFront a d (text ++ more))
+    → ((result ≡ how) × Appends a d (text ++ more)) ⊎ ((result ≡ status.WriteFault) × AppendsFront a d (text ++ more) × IsWritten a d text)
 told_after result how text more a b d k k' p (inl t) = inl (t.0, Appends-trans a b d text more p t.1.written)
-told_after result how text more a b d k k' p (inr t) = inr (t.0, AppendsFront-after a b d text more p t.1.written)
+told_after result how text more a b d k k' p (inr t) =
+    inr (t.0, AppendsFront-after a b d text more p t.1.written, written_then a b d text (take t.1.written.count more) p t.1.written.front)
 
 -- ---- what the script gives
 
@@ -214,13 +217,23 @@ whole_job end.Broken given o old new source source' a left h h' was tape' how is
 
 -- the sink failed in it
 pub cut_job : (e : End) (given : Outcomes) (o : Outcome) (old new : Board) (source source' : ℕ) (a left h h' : Option (List ℕ)) (was tape' : Option (List Touch))
-    → WhereTold a left (GivesAt e given o) → EndCaused e source source' → AppendsFront h h' o.text → JobGives status.WriteFault given old new source source' (change a left h h' was tape')
-cut_job (end.Whole count) given o old new source source' a left h h' was tape' is cause written =
-    record { text = o.text; written = written; defined = WhereTold-map a left is (λ x y g. inl (cause, [], ap (λ (r : Outcome). r.text) g.0 ∙ sym (append-nil o.text))) }
-cut_job (end.Refused line code at) given o old new source source' a left h h' was tape' is cause written =
-    record { text = o.text; written = written; defined = WhereTold-map a left is (λ x y g. inl (cause, [], ap (λ (r : Outcome). r.text) g ∙ sym (append-nil o.text))) }
-cut_job end.Broken given o old new source source' a left h h' was tape' is cause written =
-    record { text = o.text; written = written; defined = WhereTold-map a left is (λ x y g. inr (cause, g.front, g.taken, ap (λ (r : Outcome). r.text) g.is)) }
+    → WhereTold a left (GivesAt e given o) → EndCaused e source source' → AppendsFront h h' o.text → IsDoneSoFar o old new (change a left h h' was tape')
+    → JobGives status.WriteFault given old new source source' (change a left h h' was tape')
+cut_job (end.Whole count) given o old new source source' a left h h' was tape' is cause written done =
+    record { outcome = o; written = written; done = done; defined = WhereTold-map a left is (λ x y g. inl (cause, g.0)) }
+cut_job (end.Refused line code at) given o old new source source' a left h h' was tape' is cause written done =
+    record { outcome = o; written = written; done = done; defined = WhereTold-map a left is (λ x y g. inl (cause, g)) }
+cut_job end.Broken given o old new source source' a left h h' was tape' is cause written done =
+    record { outcome = o; written = written; done = done; defined = WhereTold-map a left is (λ x y g. inr (cause, g.front, g.taken, g.is)) }
+
+-- the sink failed after all was done
+pub cut_after : (o : Outcome) (old new : Board) (a left h h' : Option (List ℕ)) (was tape' : Option (List Touch)) (text : List ℕ) → o.moments 0 ≡ at_the_end o.after 0 → AppendsFront h h' text
+    → BoardIs o.after old new was tape' → IsDoneSoFar o old new (change a left h h' was tape')
+cut_after o old new a left h h' was tape' text last front board = inr (
+  0,
+  subst (λ (moment : Moment). IsWritten h h' moment.text) (sym last) (front_begun h h' text front),
+  subst (λ (moment : Moment). BoardIs moment.after old new was tape') (sym last) board,
+)
 
 -- a script that came to its end, which was told
 pub ended_job : (result : Status) (e : End) (form : Form) (c : Config) (task : Task) (defect : Option MemoryFault) (m m' : Machine) (before : Board) (lines : List Line) (a left h h' h'' hend : Option (List ℕ))
@@ -238,7 +251,11 @@ ended_job result e form c task defect m m' before lines a left h h' h'' hend was
       | inl w ↦ subst (λ (s : Status). JobGives s (outcomes form defect) before m'.board source source' (change a left h hend was tape')) (sym w.0)
           (whole_job e (outcomes form defect) o before m'.board source source' a left h hend was tape' refl is w.1 board)
       | inr w ↦ subst (λ (s : Status). JobGives s (outcomes form defect) before m'.board source source' (change a left h hend was tape')) (sym w.0)
-          (cut_job e (outcomes form defect) o before m'.board source source' a left h hend was tape' is cause w.1)
+          (cut_job e (outcomes form defect) o before m'.board source source' a left h hend was tape' is cause w.1 (inr (
+            length lines,
+            subst (λ (l : List Line). IsWritten h hend (opening_text form c ++ lines_text form c.shape m 1 l)) (sym (take_all (length lines) lines (let few : length lines ≤ length lines = omega arith in few))) w.2,
+            subst (λ (l : List Line). BoardIs (after_of form (play_of form m l)) before m'.board was tape') (sym (take_all (length lines + 1) lines (let few : length lines ≤ length lines + 1 = omega arith in few))) board,
+          )))
     ])
 
 pub ended_caused : (result : Status) (e : End) (text : List ℕ) (h h' : Option (List ℕ)) (source source' sink sink' sink'' : ℕ) → EndCaused e source source' → sink' ≡ sink → Told result (end_status e) text h h' sink' sink''
@@ -259,35 +276,60 @@ ended_caused result e text h h' source source' sink sink' sink'' cause same (inr
 
 -- ---- the other ends
 
--- the sink failed in the text of some lines
-pub stopped_job : (form : Form) (c : Config) (task : Task) (defect : Option MemoryFault) (m : Machine) (before new : Board) (lines : List Line) (held : List ℕ) (a b left h h' hend : Option (List ℕ))
+-- what is told with a relation is there, or nothing is told
+told_with : {A : Type 0} → A → (a b : Option (List ℕ)) (P : A → List ℕ → List ℕ → Type 0) → WhereTold a b (λ x y. (k : A) × P k x y) → (k : A) × WhereTold a b (P k)
+told_with other None b P p = (other, tt)
+told_with other (Some x) None P p = absurd p
+told_with other (Some x) (Some y) P p = p
+
+-- the lines before one, and those up to it
+lines_before : (lines : List Line) (line : Line) (more : List Line) → take (length lines) ((lines ++ line ∷ []) ++ more) ≡ lines
+lines_before [] line more = refl
+lines_before (first ∷ lines) line more = ap (λ (l : List Line). first ∷ l) (lines_before lines line more)
+
+lines_up_to : (lines : List Line) (line : Line) (more : List Line) → take (length lines + 1) ((lines ++ line ∷ []) ++ more) ≡ lines ++ line ∷ []
+lines_up_to [] line more = refl
+lines_up_to (first ∷ lines) line more = ap (λ (l : List Line). first ∷ l) (lines_up_to lines line more)
+
+-- the sink failed in the text of a line
+pub stopped_job : (form : Form) (c : Config) (task : Task) (defect : Option MemoryFault) (m m' : Machine) (before : Board) (held : List ℕ) (a b left h h' hend : Option (List ℕ))
     (was tape tape' : Option (List Touch)) (source source' : ℕ)
     → IsTask form c task → IsBegun form c defect m before (outputs h h' was tape) → WhereTold a b (Begins c) → source' ≡ source
-    → AppendsFront h' hend (lines_text form task.shape m 1 lines)
-    → WhereTold b (prepend_known held left) (λ x y. BeginsWith task.shape 1 lines x)
-    → JobGives status.WriteFault (outcomes form defect) before new source source' (change a left h hend was tape')
-stopped_job form c task defect m before new lines held a b left h h' hend was tape tape' source source' t begun begins same written script =
-    let text = lines_text form c.shape m 1 lines in
+    → Stops (place form task.shape 1) m m' (change b (prepend_known held left) h' hend tape tape') → UsesBoard form m.board m'.board tape tape'
+    → JobGives status.WriteFault (outcomes form defect) before m'.board source source' (change a left h hend was tape')
+stopped_job form c task defect m m' before held a b left h h' hend was tape tape' source source' t begun begins same stops uses =
+    let s = subst (λ (shape : Shape). Stops (place form shape 1) m m' (change b (prepend_known held left) h' hend tape tape')) t.shape stops in
+    let lines = s.lines ++ s.line ∷ [] in
+    let opening = opening_text form c in
+    let chosen = told_with (ended end.Broken) a left (λ more x z. outcome form Finished defect x ≡ scripted form c m (led_by lines more))
+        (told_through a b held left _ begins s.script (λ x y z u w.
+        (w.more, ap (outcome form Finished defect) u.taken ∙ begins_is form c defect m before was tape x y u Finished y (led_by lines w.more) begun.machine w.script))) in
+    let more = chosen.0 in
+    let first = lines_text form c.shape m 1 lines in
+    let front = AppendsFront-after h h' hend opening first begun.written s.written in
     record {
-      text = opening_text form c ++ text;
-      written = AppendsFront-after h h' hend (opening_text form c) text begun.written (subst (λ (s : Shape). AppendsFront h' hend (lines_text form s m 1 lines)) t.shape written);
-      defined = told_through a b held left _ begins (subst (λ (s : Shape). WhereTold b (prepend_known held left) (λ x y. BeginsWith s 1 lines x)) t.shape script)
-          (λ x y z u w. let f = fronts form c defect m before was tape x y u lines w.more begun.machine w.script in inl (same, f.0, f.1));
+      outcome = scripted form c m (led_by lines more);
+      written = subst (AppendsFront h hend) (sym (whole_text form c m lines more)) (AppendsFront-more h hend (opening ++ first) _ front);
+      done = inr (
+        length s.lines,
+        subst (λ (l : List Line). IsWritten h hend (opening ++ lines_text form c.shape m 1 l)) (sym (lines_before s.lines s.line more.lines))
+            (written_more h h' hend opening (lines_text form c.shape m 1 s.lines) begun.written s.whole),
+        subst (λ (l : List Line). BoardIs (after_of form (play_of form m l)) before m'.board was tape') (sym (lines_up_to s.lines s.line more.lines))
+            (board_is form c defect m m' before was tape tape' (play_of form m lines) begun.machine uses s.after s.taped),
+      );
+      defined = WhereTold-map a left chosen.1 (λ x z e. inl (same, e));
     }
   where
-    fronts : (form : Form) (c : Config) (defect : Option MemoryFault) (m : Machine) (before : Board) (was tape : Option (List Touch)) (x y : List ℕ) (u : Begins c x y) (lines : List Line) (more : Script)
-        → BeginsAs form c defect m before was tape → script_from c.shape Finished 1 (cut y) ≡ led_by lines more
-        → (rest : List ℕ) × ((outcome form Finished defect x).text ≡ (opening_text form c ++ lines_text form c.shape m 1 lines) ++ rest)
-    fronts form c defect m before was tape x y u lines more begin is =
+    whole_text : (form : Form) (c : Config) (m : Machine) (lines : List Line) (more : Script)
+        → (scripted form c m (led_by lines more)).text
+        ≡ (opening_text form c ++ lines_text form c.shape m 1 lines) ++ (lines_text form c.shape (play_of form m lines).after (1 + length lines) more.lines ++ end_text form c more.end)
+    whole_text form c m lines more =
         let later = lines_text form c.shape (play_of form m lines).after (1 + length lines) more.lines in
         let opening = opening_text form c in
-        let first = lines_text form c.shape m 1 lines in (
-          later ++ end_text form c more.end,
-          ap (λ (o : Outcome). o.text) (ap (outcome form Finished defect) u.taken ∙ begins_is form c defect m before was tape x y u Finished y _ begin is)
-              ∙ ap (λ (l : List ℕ). (opening ++ l) ++ end_text form c more.end) (lines_text-append form c.shape m 1 lines more.lines)
-              ∙ ap (λ (l : List ℕ). l ++ end_text form c more.end) (sym (append_assoc opening first later))
-              ∙ append_assoc (opening ++ first) later (end_text form c more.end),
-        )
+        let first = lines_text form c.shape m 1 lines in
+        ap (λ (l : List ℕ). (opening ++ l) ++ end_text form c more.end) (lines_text-append form c.shape m 1 lines more.lines)
+        ∙ ap (λ (l : List ℕ). l ++ end_text form c more.end) (sym (append_assoc opening first later))
+        ∙ append_assoc (opening ++ first) later (end_text form c more.end)
 
 -- what stands before the script could not be done
 pub failed_job : (result : Status) (form : Form) (c : Config) (behind : Follows) (defect : Option MemoryFault) (old new : Board) (held : List ℕ) (a left h h' : Option (List ℕ)) (was tape' : Option (List Touch)) (source sink sink' : ℕ)
@@ -295,18 +337,21 @@ pub failed_job : (result : Status) (form : Form) (c : Config) (behind : Follows)
     → JobGives result (outcomes form defect) old new source source (change a left h h' was tape')
 failed_job status.NoMemory form c behind defect old new held a left h h' was tape' source sink sink' fails begins = (fails.2, fails.0, fails.1)
 failed_job status.WriteFault form c behind defect old new held a left h h' was tape' source sink sink' fails begins =
-    record { text = opening_text form c; written = fails.2; defined = told_behind a held left _ begins (λ x z t. let f = by behind x (held ++ z) t in inl (refl, f.0, f.1)) }
+    let m = started c defect in
+    let chosen = told_with (ended end.Broken) a left (λ script x z. outcome form Finished defect x ≡ scripted form c m script)
+        (told_behind a held left _ begins (λ x z t. by behind x (held ++ z) t)) in
+    let lines = lines_text form c.shape m 1 chosen.0.lines in
+    record {
+      outcome = scripted form c m chosen.0;
+      written = AppendsFront-more h h' (opening_text form c ++ lines) (end_text form c chosen.0.end) (AppendsFront-more h h' (opening_text form c) lines fails.2);
+      done = inl (fails.0, fails.1);
+      defined = WhereTold-map a left chosen.1 (λ x z e. inl (refl, e));
+    }
   where
-    rest : (m : Machine) (script : Script) → (more : List ℕ) × ((scripted form c m script).text ≡ opening_text form c ++ more)
-    rest m script = (_, append_assoc (opening_text form c) (lines_text form c.shape m 1 script.lines) (end_text form c script.end))
-
-    by : (lines : Follows) (x y : List ℕ) → FoundGives (found.Config c lines) x y → (more : List ℕ) × ((outcome form Finished defect x).text ≡ opening_text form c ++ more)
+    by : (lines : Follows) (x y : List ℕ) → FoundGives (found.Config c lines) x y → (script : Script) × (outcome form Finished defect x ≡ scripted form c (started c defect) script)
     by follows.Lines x y t =
-        let r = rest (started c defect) (script_from c.shape Finished 1 (cut y)) in
-        (r.0, ap (λ (o : Outcome). o.text) (ap (outcome form Finished defect) t.taken ∙ outcome-is form Finished defect (t.front ++ y) ∙ t.is (configured form Finished defect) Finished y) ∙ r.1)
-    by follows.Nothing x y t =
-        let r = rest (started c defect) (ended (end.Whole 0)) in
-        (r.0, ap (λ (o : Outcome). o.text) (outcome-is form Finished defect x ∙ t.is (configured form Finished defect)) ∙ r.1)
+        (script_from c.shape Finished 1 (cut y), ap (outcome form Finished defect) t.taken ∙ outcome-is form Finished defect (t.front ++ y) ∙ t.is (configured form Finished defect) Finished y)
+    by follows.Nothing x y t = (ended (end.Whole 0), outcome-is form Finished defect x ∙ t.is (configured form Finished defect))
 failed_job status.Done form c behind defect old new held a left h h' was tape' source sink sink' fails begins = absurd fails
 failed_job status.Usage form c behind defect old new held a left h h' was tape' source sink sink' fails begins = absurd fails
 failed_job (status.BadConfig code) form c behind defect old new held a left h h' was tape' source sink sink' fails begins = absurd fails
@@ -358,10 +403,10 @@ refused_job result why given by old held a left h h' tape source source' sink si
 refused_job result why given by old held a left h h' tape source source' sink sink' judged (inr t) same is =
     subst (λ (s : Status). JobGives s given old old source source' (change a left h h' tape tape)) (sym t.0)
     (record {
-      text = bad_config_text why;
+      outcome = bad_config why;
       written = t.1.written;
-      defined = told_behind a held left _ is
-          (λ x z r. inl (same, [], ap (λ (o : Outcome). o.text) (judged.is Finished x ∙ r (by Finished) (judged.refusals Finished)) ∙ sym (append-nil (bad_config_text why))));
+      done = inl (refl, refl);
+      defined = told_behind a held left _ is (λ x z r. inl (same, judged.is Finished x ∙ r (by Finished) (judged.refusals Finished)));
     })
 
 -- the source failed before a configuration was found
@@ -373,7 +418,7 @@ headless_job result given by old held a left h h' tape source source' sink sink'
       | inl w ↦ subst (λ (s : Status). JobGives s given old old source source' (change a left h h' tape tape)) (sym w.0)
           (record { outcome = said read_fault_text status.ReadFault; status = refl; written = w.1.written; is = taken; board = (refl, refl) })
       | inr w ↦ subst (λ (s : Status). JobGives s given old old source source' (change a left h h' tape tape)) (sym w.0)
-          (record { text = read_fault_text; written = w.1.written; defined = WhereTold-map a left taken (λ x z r. inr (rose, r.front, r.taken, ap (λ (o : Outcome). o.text) r.is)) })
+          (record { outcome = said read_fault_text status.ReadFault; written = w.1.written; done = inl (refl, refl); defined = WhereTold-map a left taken (λ x z r. inr (rose, r.front, r.taken, r.is)) })
     ])
   where
     taken : WhereTold a left (TakenGive given (said read_fault_text status.ReadFault))

@@ -86,13 +86,13 @@ stop_job (end.Refused line code at) result given board tape a left h h' source s
     (whole_job (end.Refused line code at) given (said (stop_text (end.Refused line code at)) (stop_status (end.Refused line code at))) board board source source' a left h h' tape tape refl is t.1.written (refl, refl))
 stop_job (end.Refused line code at) result given board tape a left h h' source source' sink sink' is cause (inr t) =
     subst (λ (s : Status). JobGives s given board board source source' (change a left h h' tape tape)) (sym t.0)
-    (cut_job (end.Refused line code at) given (said (stop_text (end.Refused line code at)) (stop_status (end.Refused line code at))) board board source source' a left h h' tape tape is cause t.1.written)
+    (cut_job (end.Refused line code at) given (said (stop_text (end.Refused line code at)) (stop_status (end.Refused line code at))) board board source source' a left h h' tape tape is cause t.1.written (inl (refl, refl)))
 stop_job end.Broken result given board tape a left h h' source source' sink sink' is cause (inl t) =
     subst (λ (s : Status). JobGives s given board board source source' (change a left h h' tape tape)) (sym t.0)
     (whole_job end.Broken given (said (stop_text end.Broken) (stop_status end.Broken)) board board source source' a left h h' tape tape refl is t.1.written (refl, refl))
 stop_job end.Broken result given board tape a left h h' source source' sink sink' is cause (inr t) =
     subst (λ (s : Status). JobGives s given board board source source' (change a left h h' tape tape)) (sym t.0)
-    (cut_job end.Broken given (said (stop_text end.Broken) (stop_status end.Broken)) board board source source' a left h h' tape tape is cause t.1.written)
+    (cut_job end.Broken given (said (stop_text end.Broken) (stop_status end.Broken)) board board source source' a left h h' tape tape is cause t.1.written (inl (refl, refl)))
 
 -- nothing was told, for want of memory
 pub none_job : (result : Status) (given : Outcomes) (board : Board) (tape : Option (List Touch)) (a left h h' : Option (List ℕ)) (source source' sink sink' : ℕ)
@@ -108,7 +108,7 @@ list_job result shape l board tape a left h h' source source' sink sink' is same
     (whole_job (end.Whole 0) locating (lines_give shape (Ok l)) board board source source' a left h h' tape tape refl is t.1.written (refl, refl))
 list_job result shape l board tape a left h h' source source' sink sink' is same (inl (inr t)) =
     subst (λ (s : Status). JobGives s locating board board source source' (change a left h h' tape tape)) (sym t.0)
-    (cut_job (end.Whole 0) locating (lines_give shape (Ok l)) board board source source' a left h h' tape tape is same t.1.written)
+    (cut_job (end.Whole 0) locating (lines_give shape (Ok l)) board board source source' a left h h' tape tape is same t.1.written (inl (refl, refl)))
 list_job result shape l board tape a left h h' source source' sink sink' is same (inr n) = none_job result locating board tape a left h h' source source' sink sink' n
 
 -- ---- causes

@@ -1,5 +1,5 @@
 -- Lines that are run one after another.
-use Rattle.std.proofs.Common.{ℕ, ◌+◌, ◌-◌, ◌<◌, ◌≤◌, ◌≡◌, ◌≢◌, Bool, true, false, cond, inl, inr, List, [], ◌∷◌, ◌++◌, length, Option, Some, None, Result, Ok, Err, refl, sym, ap, subst, ◌∙◌, arith, append_assoc, length-append}
+use Rattle.std.proofs.Common.{ℕ, ◌+◌, ◌-◌, ◌<◌, ◌≤◌, ◌≡◌, ◌≢◌, Bool, true, false, cond, inl, inr, List, [], ◌∷◌, ◌++◌, length, take, Option, Some, None, Result, Ok, Err, refl, sym, ap, subst, ◌∙◌, arith, append_assoc, length-append}
 use Rattle.std.specs.Prelude.{nat_lt}
 use Rattle.std.proofs.lemmas.Bool.{le-ltb, lt-ltb}
 use Rattle.std.specs.Io.KnownBytes.{prepend_known, Appends}
@@ -22,7 +22,7 @@ use Rattle.mt_replay.specs.Inner.Reading.{HasNoFeed, BeginsTooLong, TakesLine as
 use Rattle.mt_machine.specs.Machine.{Machine, Play}
 use Rattle.mt_replay.specs.Script.{Script, ended, led_by, judged, last_judged, lines_from, script_from}
 use Rattle.mt_replay.specs.Outcome.{play_of, steps_touches}
-use Rattle.mt_replay.specs.Changes.{Change, change, UsesBoard}
+use Rattle.mt_replay.specs.Changes.{Change, change, IsWritten, UsesBoard}
 use Rattle.mt_replay.specs.Inner.Runs.{outputs, Place, place, text_at, touches_at, Answered, Crosses, Goes, EndsAt, Ends, Stops, LineGives, LastGives, TurnGives, ScriptGives}
 use Rattle.mt_replay.proofs.Feeds.{feed_or_not}
 use Rattle.mt_replay.proofs.Lines.{cut-line, cut-rest, Filled}
@@ -57,6 +57,18 @@ Answered-none p m left left' held tape = record {
   after = sym (ap (λ (play : Play). play.after) (play_of-nil p.form m));
 }
 
+-- what lines do to machine and tape, and then further ones
+after-then : (p : Place) (m m' m'' : Machine) (a b : List ScriptLine) → m' ≡ (play_of p.form m a).after → m'' ≡ (play_of p.form m' b).after → m'' ≡ (play_of p.form m (a ++ b)).after
+after-then p m m' m'' a b first second =
+    second ∙ ap (λ (n : Machine). (play_of p.form n b).after) first ∙ sym (ap (λ (play : Play). play.after) (play_of-append p.form m a b))
+
+taped-then : (p : Place) (m m' : Machine) (a b : List ScriptLine) (t t' t'' : Option (List Touch)) → m' ≡ (play_of p.form m a).after → Logs t t' (touches_at p m a) → Logs t' t'' (touches_at p m' b)
+    → Logs t t'' (touches_at p m (a ++ b))
+taped-then p m m' a b t t' t'' after first second =
+    let mid = (play_of p.form m a).after in
+    subst (Logs t t'') (sym (ap (λ (play : Play). steps_touches play.steps) (play_of-append p.form m a b) ∙ touches-append (play_of p.form m a).steps (play_of p.form mid b).steps))
+    (Logs-append t t' t'' (touches_at p m a) (touches_at p mid b) first (subst (λ (n : Machine). Logs t' t'' (touches_at p n b)) after second))
+
 pub Answered-then : (p : Place) (m m' m'' : Machine) (a b : List ScriptLine) (x y : Change) (held : Option (List ℕ)) (tape : Option (List Touch)) → y.held ≡ x.held' → y.tape ≡ x.tape'
     → Answered p m m' a x → Answered (behind p a) m' m'' b y → Answered p m m'' (a ++ b) (record x { left' = y.left'; held' = y.held'; tape' = y.tape' })
 Answered-then p m m' m'' a b x y held tape eh et q r =
@@ -65,10 +77,26 @@ Answered-then p m m' m'' a b x y held tape eh et q r =
     record {
       written = subst (Appends x.held y.held') (sym (lines_text-append p.form p.shape m p.number a b))
           (Appends-trans x.held x.held' y.held' (text_at p m a) (text_at (behind p a) mid b) q.written (subst (λ (h : Option (List ℕ)). Appends h y.held' (text_at (behind p a) mid b)) eh second.written));
-      taped = subst (Logs x.tape y.tape') (sym (ap (λ (play : Play). steps_touches play.steps) (play_of-append p.form m a b) ∙ touches-append (play_of p.form m a).steps (play_of p.form mid b).steps))
-          (Logs-append x.tape x.tape' y.tape' (touches_at p m a) (touches_at (behind p a) mid b) q.taped (subst (λ (t : Option (List Touch)). Logs t y.tape' (touches_at (behind p a) mid b)) et second.taped));
-      after = second.after ∙ sym (ap (λ (play : Play). play.after) (play_of-append p.form m a b));
+      taped = taped-then p m m' a b x.tape x.tape' y.tape' q.after q.taped (subst (λ (t : Option (List Touch)). Logs t y.tape' (touches_at p m' b)) et r.taped);
+      after = after-then p m m' m'' a b q.after r.after;
     }
+
+-- a whole text, and then another
+pub written_then : (a b c : Option (List ℕ)) (text more : List ℕ) → Appends a b text → Appends b c more → IsWritten a c text
+written_then None b c text more p q = tt
+written_then (Some x) None c text more p q = absurd p
+written_then (Some x) (Some y) None text more p q = absurd q
+written_then (Some x) (Some y) (Some z) text more p q = (more, q ∙ ap (λ (l : List ℕ). l ++ more) p)
+
+pub written_more : (a b c : Option (List ℕ)) (text more : List ℕ) → Appends a b text → IsWritten b c more → IsWritten a c (text ++ more)
+written_more None b c text more p q = tt
+written_more (Some x) None c text more p q = absurd p
+written_more (Some x) (Some y) None text more p q = absurd q
+written_more (Some x) (Some y) (Some z) text more p q =
+    (q.0, q.1 ∙ ap (λ (l : List ℕ). (l ++ more) ++ q.0) p ∙ ap (λ (l : List ℕ). l ++ q.0) (append_assoc x text more))
+
+pub front_begun : (a b : Option (List ℕ)) (text : List ℕ) → AppendsFront a b text → IsWritten a b []
+front_begun a b text front = written_then a a b [] (take front.count text) (Appends-nil a) front.front
 
 -- the front of a later text, behind that of the lines before
 fronts : (p : Place) (m m' : Machine) (a b : List ScriptLine) (h h' h'' : Option (List ℕ)) → Appends h h' (text_at p m a) → m' ≡ (play_of p.form m a).after → AppendsFront h' h'' (text_at (behind p a) m' b)
@@ -85,6 +113,12 @@ led_by-append a b s = ap (λ (l : List ScriptLine). let r : Script = record { li
 whole-is : (shape : Shape) (ending : Ending) (n : ℕ) (text after : List ℕ) (before : List ℕ) → before ≡ text ++ 10 ∷ after → HasNoFeed text
     → script_from shape ending n (cut before) ≡ judged shape n text (script_from shape ending (n + 1) (cut after))
 whole-is shape ending n text after before e feeds = ap (λ (l : List ℕ). script_from shape ending n (cut l)) e ∙ ap (script_from shape ending n) (cut-line text after feeds)
+
+-- no text stands before that of the first line
+nothing_written : (form : Form) (shape : Shape) (n : ℕ) (m : Machine) (held held' : Option (List ℕ)) (l : ScriptLine) → AppendsFront held held' (text_at (place form shape n) m (l ∷ []))
+    → IsWritten held held' (text_at (place form shape n) m [])
+nothing_written form shape n m held held' l front =
+    subst (IsWritten held held') (sym (lines_text-nil form shape m n)) (front_begun held held' (text_at (place form shape n) m (l ∷ [])) front)
 
 -- a whole line was read and judged
 pub whole_turn : (r : Result Turn StreamFailed) (form : Form) (shape : Shape) (n : ℕ) (m m' : Machine) (text : List ℕ) (a b held held' : Option (List ℕ)) (tape tape' : Option (List Touch))
@@ -112,8 +146,12 @@ whole_turn (Ok (turn.Ended (end.Refused line code at))) form shape n m m' text a
 }
 whole_turn (Ok (turn.Ended end.Broken)) form shape n m m' text a b held held' tape tape' p q = absurd q.refusal
 whole_turn (Err failed) form shape n m m' text a b held held' tape tape' p q = record {
-  lines = q.line ∷ [];
-  written = q.written;
+  lines = [];
+  line = q.line;
+  whole = nothing_written form shape n m held held' q.line q.breaks.written;
+  written = q.breaks.written;
+  taped = q.breaks.taped;
+  after = q.breaks.after;
   script = WhereTold-map a b p (λ x y h. record {
     more = script_from shape Finished (n + 1) (cut y);
     script = whole-is shape Finished n text y x h.0 h.1 ∙ q.is (script_from shape Finished (n + 1) (cut y));
@@ -151,8 +189,12 @@ last_turn (Ok (end.Refused line code at)) form shape n m m' text a b held held' 
 }
 last_turn (Ok end.Broken) form shape n m m' text a b held held' tape tape' p q = absurd q
 last_turn (Err failed) form shape n m m' text a b held held' tape tape' p q = record {
-  lines = q.line ∷ [];
-  written = q.written;
+  lines = [];
+  line = q.line;
+  whole = nothing_written form shape n m held held' q.line q.breaks.written;
+  written = q.breaks.written;
+  taped = q.breaks.taped;
+  after = q.breaks.after;
   script = WhereTold-map a b p (λ x y h. record { more = ended (end.Whole n); script = last-from shape n text x y h ∙ q.is (ended (end.Whole n)) });
 }
 
@@ -248,17 +290,33 @@ Goes-ends e form shape n n' m m' m'' a b d held held' held'' tape tape' tape'' p
       script = WhereTold-then a b d p.crosses q.script (λ u v w c h. ends-behind e shape n n' p.lines q.lines u v w c h);
     }
 
-pub Goes-stops : (form : Form) (shape : Shape) (n n' : ℕ) (m m' : Machine) (a b d held held' held'' : Option (List ℕ)) (tape tape' tape'' : Option (List Touch))
-    → Goes (place form shape n) m m' n' (change a b held held' tape tape') → Stops (place form shape n') m' (change b d held' held'' tape' tape'')
-    → Stops (place form shape n) m (change a d held held'' tape tape'')
-Goes-stops form shape n n' m m' a b d held held' held'' tape tape' tape'' p q =
-    let front = at_number form shape n n' (length p.lines) (λ (w : Place). AppendsFront held' held'' (text_at w m' q.lines)) p.count q.written in
+-- the text of lines was written, and then that of further ones
+wholes : (p : Place) (m m' : Machine) (a b : List ScriptLine) (h h' h'' : Option (List ℕ)) → Appends h h' (text_at p m a) → m' ≡ (play_of p.form m a).after → IsWritten h' h'' (text_at (behind p a) m' b)
+    → IsWritten h h'' (text_at p m (a ++ b))
+wholes p m m' a b h h' h'' written after more =
+    subst (IsWritten h h'') (sym (lines_text-append p.form p.shape m p.number a b))
+    (written_more h h' h'' (text_at p m a) (text_at (behind p a) (play_of p.form m a).after b) written (subst (λ (n : Machine). IsWritten h' h'' (text_at (behind p a) n b)) after more))
+
+pub Goes-stops : (form : Form) (shape : Shape) (n n' : ℕ) (m m' m'' : Machine) (a b d held held' held'' : Option (List ℕ)) (tape tape' tape'' : Option (List Touch))
+    → Goes (place form shape n) m m' n' (change a b held held' tape tape') → Stops (place form shape n') m' m'' (change b d held' held'' tape' tape'')
+    → Stops (place form shape n) m m'' (change a d held held'' tape tape'')
+Goes-stops form shape n n' m m' m'' a b d held held' held'' tape tape' tape'' p q =
+    let here = place form shape n in
+    let all = q.lines ++ q.line ∷ [] in
+    let joined = sym (append_assoc p.lines q.lines (q.line ∷ [])) in
+    let done = p.answered in
+    let whole = at_number form shape n n' (length p.lines) (λ (w : Place). IsWritten held' held'' (text_at w m' q.lines)) p.count q.whole in
+    let front = at_number form shape n n' (length p.lines) (λ (w : Place). AppendsFront held' held'' (text_at w m' all)) p.count q.written in
     record {
       lines = p.lines ++ q.lines;
-      written = fronts (place form shape n) m m' p.lines q.lines held held' held'' p.answered.written p.answered.after front;
+      line = q.line;
+      whole = wholes here m m' p.lines q.lines held held' held'' done.written done.after whole;
+      written = subst (λ (l : List ScriptLine). AppendsFront held held'' (text_at here m l)) joined (fronts here m m' p.lines all held held' held'' done.written done.after front);
+      taped = subst (λ (l : List ScriptLine). Logs tape tape'' (touches_at here m l)) joined (taped-then here m m' p.lines all tape tape' tape'' done.after done.taped q.taped);
+      after = subst (λ (l : List ScriptLine). m'' ≡ (play_of form m l).after) joined (after-then here m m' m'' p.lines all done.after q.after);
       script = WhereTold-then a b d p.crosses q.script (λ u v w c h. record {
         more = h.more;
-        script = crossed shape n n' p.lines u v c ∙ ap (led_by p.lines) h.script ∙ led_by-append p.lines q.lines h.more;
+        script = crossed shape n n' p.lines u v c ∙ ap (led_by p.lines) h.script ∙ led_by-append p.lines all h.more ∙ ap (λ (l : List ScriptLine). led_by l h.more) joined;
       });
     }
 
@@ -267,7 +325,7 @@ pub turn_ends : (r : Result End StreamFailed) (form : Form) (shape : Shape) (n n
     → Goes (place form shape n) m m' n' (change a b held held' tape tape') → ScriptGives r (place form shape n') m' m'' (change b d held' held'' tape' tape'')
     → ScriptGives r (place form shape n) m m'' (change a d held held'' tape tape'')
 turn_ends (Ok e) form shape n n' m m' m'' a b d held held' held'' tape tape' tape'' p q = Goes-ends e form shape n n' m m' m'' a b d held held' held'' tape tape' tape'' p q
-turn_ends (Err failed) form shape n n' m m' m'' a b d held held' held'' tape tape' tape'' p q = Goes-stops form shape n n' m m' a b d held held' held'' tape tape' tape'' p q
+turn_ends (Err failed) form shape n n' m m' m'' a b d held held' held'' tape tape' tape'' p q = Goes-stops form shape n n' m m' m'' a b d held held' held'' tape tape' tape'' p q
 
 -- ---- beyond the last line that may be
 

@@ -1,12 +1,11 @@
 -- A line that is judged and answered.
-use Rattle.std.proofs.Common.{ℕ, ◌≤◌, ◌≡◌, false, List, [], ◌∷◌, length, Option, Result, Ok, Err, refl, sym, ap, subst, ◌∙◌}
+use Rattle.std.proofs.Common.{ℕ, ◌≤◌, ◌≡◌, false, List, [], ◌∷◌, length, Result, Ok, Err, refl, sym, ap, subst, ◌∙◌}
 use Rattle.std.specs.Prelude.{nat_lt}
 use Rattle.std.proofs.lemmas.Bool.{le-ltb}
 use Rattle.std.specs.Io.KnownBytes.{Appends}
 use Rattle.mt_port.specs.Streams.{AppendsFront}
 use Rattle.mt_port.specs.Board.{Logs}
 use Rattle.mt_port.specs.declared.board.Shape.{Shape}
-use Rattle.mt_port.specs.declared.board.Touch.{Touch}
 use Rattle.mt_text.specs.declared.line.Line.{Line}
 use Rattle.mt_text.specs.declared.line.LineRefusal.{LineRefusal}
 use Rattle.mt_text.specs.Lines.{line_of}
@@ -19,7 +18,7 @@ use Rattle.mt_machine.specs.Inner.Events.{Steps}
 use Rattle.mt_machine.specs.Machine.{Machine}
 use Rattle.mt_replay.specs.Script.{Script, taken, judged}
 use Rattle.mt_replay.specs.Changes.{Change}
-use Rattle.mt_replay.specs.Inner.Runs.{place, text_at, Answered, IsTaken, EndsThere}
+use Rattle.mt_replay.specs.Inner.Runs.{place, Answered, Breaks, IsTaken, EndsThere}
 use Rattle.mt_replay.proofs.Plays.{run_text-one, run_touches-one}
 use Rattle.mt_replay.proofs.Texts.{entries_text-nil}
 
@@ -50,8 +49,11 @@ played_line shape m m' number line entries x s written = record {
 pub silent_line : (shape : Shape) (m m' : Machine) (number : ℕ) (line : Line) (x : Change) → Steps m m' line [] x.tape x.tape' → Appends x.held x.held' [] → Answered (place forms.Run shape number) m m' (line ∷ []) x
 silent_line shape m m' number line x s written = played_line shape m m' number line [] x s (subst (Appends x.held x.held') (sym (entries_text-nil shape.width number)) written)
 
--- a front of its text
-pub played_front : (shape : Shape) (m m' : Machine) (number : ℕ) (line : Line) (entries : List Entry) (h h' : Option (List ℕ)) (tape tape' : Option (List Touch)) → Steps m m' line entries tape tape'
-    → AppendsFront h h' (entries_text shape.width number entries) → AppendsFront h h' (text_at (place forms.Run shape number) m (line ∷ []))
-played_front shape m m' number line entries h h' tape tape' s written =
-    subst (AppendsFront h h') (ap (entries_text shape.width number) (sym s.entries) ∙ sym (run_text-one shape m number line)) written
+-- a step of a replay, of whose text a front was written
+pub played_front : (shape : Shape) (m m' : Machine) (number : ℕ) (line : Line) (entries : List Entry) (x : Change) → Steps m m' line entries x.tape x.tape'
+    → AppendsFront x.held x.held' (entries_text shape.width number entries) → Breaks (place forms.Run shape number) m m' line x
+played_front shape m m' number line entries x s written = record {
+  written = subst (AppendsFront x.held x.held') (ap (entries_text shape.width number) (sym s.entries) ∙ sym (run_text-one shape m number line)) written;
+  taped = subst (Logs x.tape x.tape') (sym (run_touches-one m line)) s.taped;
+  after = sym s.after;
+}

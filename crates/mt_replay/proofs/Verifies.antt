@@ -38,7 +38,7 @@ use Rattle.mt_replay.specs.Inner.Comparing.{Stands, VerdictGives, VerdictCaused}
 use Rattle.mt_replay.specs.Inner.Replaying.{PlayedWhole}
 use Rattle.mt_replay.specs.Inner.Verifies.{verdict_said, verdict_how, trace_of, Judges}
 use Rattle.mt_replay.specs.Replay.{BoardIs, JobGives, Told}
-use Rattle.mt_replay.proofs.Jobs.{AreJudged, GivesAt, told_through, told_behind, nothing_behind, whole_job, cut_job}
+use Rattle.mt_replay.proofs.Jobs.{AreJudged, GivesAt, told_through, told_behind, nothing_behind, whole_job, cut_job, cut_after}
 use Rattle.mt_replay.proofs.Locates.{stop_job, none_job}
 
 verifying-is : (defect : Option Fault) (ending : Ending) (bytes : List ℕ) → verifying defect ending bytes ≡ judged_job (verifying_by defect ending) ending (job_of ending bytes)
@@ -196,7 +196,8 @@ verdict_job v result defect replay old new a left h h' was tape' source source' 
     (whole_verdict v defect replay old new a left h h' was tape' source source' is t.1.written board)
 verdict_job v result defect replay old new a left h h' was tape' source source' sink sink' is board cause (inr t) =
     subst (λ (s : Status). JobGives s (verifying defect) old new source source' (change a left h h' was tape')) (sym t.0)
-    (cut_job (end_of v) (verifying defect) (judged_so v replay) old new source source' a left h h' was tape' is (caused_end v source source' cause) t.1.written)
+    (cut_job (end_of v) (verifying defect) (judged_so v replay) old new source source' a left h h' was tape' is (caused_end v source source' cause) t.1.written
+    (cut_after (judged_so v replay) old new a left h h' was tape' (verdict_said v) refl t.1.written board))
 
 trace_at : (v : Result Verdict StreamFailed) (shape : Shape) (lines : List Line) (m m' n : Machine) (left left' : Option (List ℕ)) (tape tape' : Option (List Touch)) → m ≡ n → Judges v shape lines m m' left left' tape tape'
     → VerdictGives v (trace_of shape n lines) left left'

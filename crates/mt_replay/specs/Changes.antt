@@ -1,5 +1,6 @@
 -- What a call may change of streams and board.
-use Rattle.std.specs.Prelude.{ℕ, ◌≡◌, List, Option}
+use Rattle.std.specs.Prelude.{ℕ, ◌≡◌, List, ◌++◌, Option}
+use Rattle.mt_port.specs.Streams.{WhereTold}
 use Rattle.mt_port.specs.Board.{Board}
 use Rattle.mt_port.specs.declared.board.Touch.{Touch}
 use Rattle.mt_replay.specs.declared.form.Form.{Form}
@@ -16,6 +17,10 @@ pub record Change : Type 0 where
 
 abbrev pub change : (left left' held held' : Option (List ℕ)) (tape tape' : Option (List Touch)) → Change
 change left left' held held' tape tape' = record { left = left; left' = left'; held = held; held' = held'; tape = tape; tape' = tape' }
+
+-- The whole of this text was written, and maybe more.
+abbrev pub IsWritten : (held held' : Option (List ℕ)) → List ℕ → Type 0
+IsWritten held held' text = WhereTold held held' (λ before now. (more : List ℕ) × (now ≡ (before ++ text) ++ more))
 
 -- only a replay uses the board, whose defect stays
 abbrev pub UsesBoard : Form → (old new : Board) → (tape tape' : Option (List Touch)) → Type 0

@@ -1,5 +1,5 @@
 -- What a job gives: the text that is written, how it ends, and what is left of the board.
-use Rattle.std.specs.Prelude.{ℕ, ◌+◌, List, [], ◌∷◌, ◌++◌, length, codes, flat_map, slice_get, Option, Some, None, Result, Ok, Err, nat_lt, nat_le, if◌then◌else◌}
+use Rattle.std.specs.Prelude.{ℕ, ◌+◌, List, [], ◌∷◌, ◌++◌, length, take, codes, flat_map, slice_get, Option, Some, None, Result, Ok, Err, nat_lt, nat_le, if◌then◌else◌}
 use Rattle.std.specs.Fmt.{decimal}
 use Rattle.mt_port.specs.declared.board.Shape.{Shape}
 use Rattle.mt_port.specs.declared.board.Touch.{Touch}
@@ -122,12 +122,19 @@ pub record After : Type 0 where
   pub board : Board
   pub touches : List Touch
 
--- what a job gives, and the steps of its replay; where nothing was replayed, the board stays
+-- what stands when a text is to be written: the text before it, and what was done to the board
+pub record Moment : Type 0 where
+  pub text : List ℕ
+  pub after : Option After
+
+-- What a job gives, the steps of its replay, and what stands when the text of a line is to be written, by the number of lines before it. If
+-- nothing was replayed, the board stays.
 pub record Outcome : Type 0 where
   pub text : List ℕ
   pub status : Status
   pub steps : List Step
   pub after : Option After
+  pub moments : ℕ → Moment
 
 -- only a replay uses the board
 abbrev pub after_of : Form → Play → Option After
@@ -137,12 +144,23 @@ after_of forms.Format play = None
 after_of forms.Migrate play = None
 after_of (forms.Cut ask) play = None
 
+-- one text, which is written after all is done
+abbrev pub at_the_end : Option After → ℕ → Moment
+at_the_end after number = record { text = []; after = after }
+
 -- a text alone, and a status
 abbrev pub said : List ℕ → Status → Outcome
-said text how = record { text = text; status = how; steps = []; after = None }
+said text how = record { text = text; status = how; steps = []; after = None; moments = at_the_end None }
 
 abbrev pub bad_config : Refused → Outcome
 bad_config why = said (bad_config_text why) (status.BadConfig (rule_number why))
+
+-- The text of a line is written when the texts of so many lines before it are, and the line is done. The closing text follows the last line.
+abbrev pub moment : Form → Config → Machine → List Line → ℕ → Moment
+moment form config m lines number = record {
+  text = opening_text form config ++ lines_text form config.shape m 1 (take number lines);
+  after = after_of form (play_of form m (take (number + 1) lines));
+}
 
 -- the script of an accepted configuration, where the machine begins so
 abbrev pub scripted : Form → Config → Machine → Script → Outcome
@@ -151,6 +169,7 @@ scripted form config m script = record {
   status = end_status script.end;
   steps = (play_of form m script.lines).steps;
   after = after_of form (play_of form m script.lines);
+  moments = moment form config m script.lines;
 }
 
 -- the configuration decides, and then the script

@@ -17,7 +17,7 @@ use Rattle.mt_replay.specs.declared.status.Status.{Status}
 use Rattle.mt_replay.specs.declared.status.Status.TheVariants as status
 use Rattle.mt_replay.specs.Input.{Ending, Finished, Failed}
 use Rattle.mt_replay.specs.Outcome.{After, Outcome, outcome}
-use Rattle.mt_replay.specs.Changes.{Change, UsesBoard}
+use Rattle.mt_replay.specs.Changes.{Change, IsWritten, UsesBoard}
 use Rattle.mt_replay.specs.Locate.{locating}
 use Rattle.mt_replay.specs.Verify.{verifying}
 use Rattle.mt_replay.specs.Soak.{soaked}
@@ -98,17 +98,24 @@ pub record Broken (given : Outcomes) (old new : Board) (x : Change) : Type 0 whe
   pub is : WhereTold x.left x.left' (TakenGive given outcome)
   pub board : BoardIs outcome.after old new x.tape x.tape'
 
--- This text begins what the input gives; or the source failed too, and it is what the bytes give that were taken before.
-abbrev pub IsDefined : Outcomes → (source source' : ℕ) → (text before rest : List ℕ) → Type 0
-IsDefined given source source' text before rest =
-    ((source' ≡ source) × (more : List ℕ) × ((given Finished before).text ≡ text ++ more))
-    ⊎ (Rose source source' × (front : List ℕ) × (before ≡ front ++ rest) × ((given Failed front).text ≡ text))
+-- This is what the input gives; or the source failed too, and it is what the bytes give that were taken before.
+abbrev pub IsDefined : Outcomes → (source source' : ℕ) → Outcome → (before rest : List ℕ) → Type 0
+IsDefined given source source' outcome before rest =
+    ((source' ≡ source) × (given Finished before ≡ outcome))
+    ⊎ (Rose source source' × (front : List ℕ) × (before ≡ front ++ rest) × (given Failed front ≡ outcome))
 
--- The sink failed: a proper front of the defined text was written.
-pub record Cutting (given : Outcomes) (source source' : ℕ) (x : Change) : Type 0 where
-  pub text : List ℕ
-  pub written : AppendsFront x.held x.held' text
-  pub defined : WhereTold x.left x.left' (IsDefined given source source' text)
+-- The board is as it was; or the texts of some lines were written, and those lines and at most one more were done.
+abbrev pub IsDoneSoFar : Outcome → (old new : Board) → Change → Type 0
+IsDoneSoFar outcome old new x =
+    ((new ≡ old) × (x.tape' ≡ x.tape))
+    ⊎ ((lines : ℕ) × IsWritten x.held x.held' (outcome.moments lines).text × BoardIs (outcome.moments lines).after old new x.tape x.tape')
+
+-- The sink failed: a proper front of the defined text was written, and the board is that of the lines in it and of at most one more.
+pub record Cutting (given : Outcomes) (source source' : ℕ) (old new : Board) (x : Change) : Type 0 where
+  pub outcome : Outcome
+  pub written : AppendsFront x.held x.held' outcome.text
+  pub done : IsDoneSoFar outcome old new x
+  pub defined : WhereTold x.left x.left' (IsDefined given source source' outcome)
 
 -- what a job gives, by its status
 abbrev pub JobGives : Status → Outcomes → (old new : Board) → (source source' : ℕ) → Change → Type 0
@@ -117,7 +124,7 @@ JobGives (status.BadConfig code) given old new source source' x = Concluded give
 JobGives (status.BadScript line code place) given old new source source' x = Concluded given (status.BadScript line code place) old new x
 JobGives (status.Differs line) given old new source source' x = Concluded given (status.Differs line) old new x
 JobGives status.ReadFault given old new source source' x = Broken given old new x
-JobGives status.WriteFault given old new source source' x = Cutting given source source' x
+JobGives status.WriteFault given old new source source' x = Cutting given source source' old new x
 JobGives status.NoMemory given old new source source' x = (x.held' ≡ x.held) × (new ≡ old) × (x.tape' ≡ x.tape)
 JobGives status.Usage given old new source source' x = ⊥
 

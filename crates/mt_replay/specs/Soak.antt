@@ -14,7 +14,7 @@ use Rattle.mt_gen.specs.Summary.{summary_of}
 use Rattle.mt_replay.specs.declared.form.Form.TheVariants as forms
 use Rattle.mt_replay.specs.declared.status.Status.TheVariants as status
 use Rattle.mt_machine.specs.Machine.{Step, started, Play, played}
-use Rattle.mt_replay.specs.Outcome.{Outcome, after_of, done_text}
+use Rattle.mt_replay.specs.Outcome.{Outcome, after_of, at_the_end, done_text}
 
 -- a line with a word and a number, or with a word and a text
 abbrev pub word_text : (word text : List ℕ) → List ℕ
@@ -40,6 +40,7 @@ summed lines play = record {
   status = status.Done;
   steps = play.steps;
   after = after_of forms.Run play;
+  moments = at_the_end (after_of forms.Run play);
 }
 
 -- the generated job with a number is replayed, on a board with a defect or none

@@ -21,7 +21,7 @@ use Rattle.mt_machine.specs.Machine.{started}
 use Rattle.mt_replay.specs.Script.{Script}
 use Rattle.mt_replay.specs.Locating.{◌>>=◌}
 use Rattle.mt_replay.specs.Locate.{stop_text, stop_status}
-use Rattle.mt_replay.specs.Outcome.{Outcome, said, scripted, bad_config, refused_of, read_fault_text, judged_job}
+use Rattle.mt_replay.specs.Outcome.{Outcome, at_the_end, said, scripted, bad_config, refused_of, read_fault_text, judged_job}
 
 -- ---- a script and a trace
 
@@ -109,7 +109,7 @@ verdict_status (Some line) = status.Differs line
 
 -- the replay of the script, of which something else is told
 abbrev pub telling : Outcome → List ℕ → Status → Outcome
-telling replay text how = record replay { text = text; status = how }
+telling replay text how = record replay { text = text; status = how; moments = at_the_end replay.after }
 
 abbrev pub judged_by : Outcome → Option ℕ → Outcome
 judged_by replay other = telling replay (verdict_text replay.text other) (verdict_status other)

@@ -1,6 +1,6 @@
 //! Runs the lines of a script.
 
-ghost use Rattle.std.specs.Prelude.{◌≡◌, ◌<◌, ◌≤◌, ◌+◌, ◌++◌, [], ◌∷◌, Ok, length, OnOk, OnErr, IfOk};
+ghost use Rattle.std.specs.Prelude.{◌≡◌, ◌≤◌, ◌++◌, [], ◌∷◌, Ok, length, OnOk, OnErr};
 ghost use Rattle.std.specs.Io.KnownBytes.{prepend_known, Appends};
 ghost use Rattle.mt_port.specs.Causes.{HasCause};
 ghost use Rattle.mt_port.specs.Streams.{AppendsFront, WhereTold};
@@ -9,14 +9,14 @@ ghost use Rattle.mt_text.specs.Trace.{entries_text};
 ghost use Rattle.mt_machine.specs.Machine.{Machine, machine, IsReady};
 ghost use Rattle.mt_replay.specs.Script.{judged};
 ghost use Rattle.mt_replay.specs.Changes.{change, UsesBoard};
-ghost use Rattle.mt_replay.specs.Inner.Runs.{outputs, place, text_at, Answered, LineGives, LastGives, TurnGives, ScriptGives, PastGives, EndCaused, TurnCaused, ScriptCaused, IsReadyFor};
+ghost use Rattle.mt_replay.specs.Inner.Runs.{outputs, place, text_at, Answered, Breaks, LineGives, LastGives, TurnGives, ScriptGives, PastGives, EndCaused, TurnCaused, ScriptCaused, IsReadyFor};
 
 use crate::form::{Form, Task};
 use crate::input::{Input, Line as Reading, LineText};
 use arrayvec::ArrayVec;
 use mt_machine::{Modules, lines_keep_the_board, perform};
 use mt_port::{Bench, Failed, Shape, Sink, Source, put};
-use mt_text::{Line, LineText as CanonicalText, entry_text, push_line, trace_lines_stand_in_order};
+use mt_text::{Line, LineText as CanonicalText, push_entry, push_line, trace_lines_stand_in_order};
 use mt_window::{Entry, EventLog, Reply};
 use mt_word::Width;
 
@@ -61,18 +61,6 @@ impl Desk {
     }
 }
 
-// Appends a text where there is room.
-fn push_text(page: &mut Page, text: &[u8])
-    requires { length page.old.items + length text.now ≤ 16448 }
-    ensures { page.new.items ≡ page.old.items ++ text.now }
-{
-    match page.try_extend_from_slice(text) {
-        Ok(()) => {}
-        // There is room.
-        Err(_) => unreachable!(),
-    }
-}
-
 // Makes the trace lines of some entries, on an empty page.
 fn push_entries(page: &mut Page, entries: &[Entry], width: Width, number: u32)
     requires empty { page.old.items ≡ [] }
@@ -82,7 +70,7 @@ fn push_entries(page: &mut Page, entries: &[Entry], width: Width, number: u32)
 {
     trace_lines_stand_in_order();
     for entry in entries {
-        push_text(page, &entry_text(number, entry, width));
+        push_entry(page, number, entry, width);
     }
 }
 
@@ -104,7 +92,7 @@ fn write_answer<K: Sink>(
     trace_lines_stand_in_order();
     page.clear();
     push_entries(page, log.entries(), width, number);
-    push_text(page, &entry_text(number, &Entry::Own(reply), width));
+    push_entry(page, number, &Entry::Own(reply), width);
     put(sink, page)
 }
 
@@ -124,8 +112,9 @@ fn play_line<K: Sink, B: Bench>(
     ensures ok { OnOk result (Answered (place Form.Run shape number) (machine (B.state board.old) modules.old)
         (machine (B.state board.new) modules.new)
         (desk.old.line ∷ []) (outputs (K.held sink.old) (K.held sink.new) (B.tape board.old) (B.tape board.new))) }
-    ensures err { OnErr result (AppendsFront (K.held sink.old) (K.held sink.new)
-        (text_at (place Form.Run shape number) (machine (B.state board.old) modules.old) (desk.old.line ∷ []))) }
+    ensures err { OnErr result (Breaks (place Form.Run shape number) (machine (B.state board.old) modules.old)
+        (machine (B.state board.new) modules.new)
+        desk.old.line (outputs (K.held sink.old) (K.held sink.new) (B.tape board.old) (B.tape board.new))) }
     ensures cause { HasCause (K.faults sink.old) (K.faults sink.new) result }
 {
     lines_keep_the_board();
@@ -169,9 +158,9 @@ fn answer_line<K: Sink, B: Bench>(
     ensures ok { OnOk result (Answered (place task.now.form task.now.shape number)
         (machine (B.state board.old) modules.old) (machine (B.state board.new) modules.new)
         (desk.old.line ∷ []) (outputs (K.held sink.old) (K.held sink.new) (B.tape board.old) (B.tape board.new))) }
-    ensures err { OnErr result (AppendsFront (K.held sink.old) (K.held sink.new)
-        (text_at (place task.now.form task.now.shape number) (machine (B.state board.old) modules.old)
-        (desk.old.line ∷ []))) }
+    ensures err { OnErr result (Breaks (place task.now.form task.now.shape number)
+        (machine (B.state board.old) modules.old) (machine (B.state board.new) modules.new)
+        desk.old.line (outputs (K.held sink.old) (K.held sink.new) (B.tape board.old) (B.tape board.new))) }
     ensures cause { HasCause (K.faults sink.old) (K.faults sink.new) result }
 {
     match task.form {

@@ -12,9 +12,6 @@ use mt_port::{Failed, Sink, put};
 use mt_window::{AlgorithmName, Detail, Entry, Refusal, Reply, ShownState, TestResult, Value};
 use mt_word::Width;
 
-/// One trace line: at most 10 digits, a space, 44 bytes and a line feed.
-type EntryText = ArrayVec<u8, 64>;
-
 fn state_name(state: ShownState) -> &'static [u8]
     ensures value { result.now ≡ state_name state }
     ensures short { length result.now ≤ 9 }
@@ -65,8 +62,8 @@ fn refusal_text(refusal: Refusal) -> &'static [u8]
     }
 }
 
-fn push_identifier(out: &mut EntryText, id: Option<u32>)
-    requires { length out.old.items + 10 ≤ 64 }
+fn push_identifier<const N: usize>(out: &mut ArrayVec<u8, N>, id: Option<u32>)
+    requires { length out.old.items + 10 ≤ N }
     ensures text { out.new.items ≡ out.old.items ++ identifier_text id }
     ensures short { length out.new.items ≤ length out.old.items + 10 }
 {
@@ -76,19 +73,19 @@ fn push_identifier(out: &mut EntryText, id: Option<u32>)
     }
 }
 
-fn push_place(out: &mut EntryText, kind: &[u8], block: u32, addr: u32)
-    requires { length out.old.items + length kind.now + 21 ≤ 64 }
+fn push_place<const N: usize>(out: &mut ArrayVec<u8, N>, kind: &[u8], block: u32, addr: u32)
+    requires { length out.old.items + length kind.now + 21 ≤ N }
     ensures text { out.new.items ≡ out.old.items ++ kind.now ++ decimal block ++ codes " " ++ decimal addr }
     ensures short { length out.new.items ≤ length out.old.items + length kind.now + 21 }
 {
     push_bytes(out, kind);
     push_number(out, block);
-    push_bytes(out, b" ");
+    out.push(b' ');
     push_number(out, addr);
 }
 
-fn push_detail(out: &mut EntryText, detail: Detail)
-    requires { length out.old.items + 26 ≤ 64 }
+fn push_detail<const N: usize>(out: &mut ArrayVec<u8, N>, detail: Detail)
+    requires { length out.old.items + 26 ≤ N }
     ensures text { out.new.items ≡ out.old.items ++ detail_text detail }
     ensures short { length out.new.items ≤ length out.old.items + 26 }
 {
@@ -99,18 +96,18 @@ fn push_detail(out: &mut EntryText, detail: Detail)
     }
 }
 
-fn push_interval(out: &mut EntryText, id: Option<u32>, outcome: TestResult)
-    requires { length out.old.items + 21 ≤ 64 }
+fn push_interval<const N: usize>(out: &mut ArrayVec<u8, N>, id: Option<u32>, outcome: TestResult)
+    requires { length out.old.items + 21 ≤ N }
     ensures text { out.new.items ≡ out.old.items ++ identifier_text id ++ codes " " ++ result_name outcome }
     ensures short { length out.new.items ≤ length out.old.items + 21 }
 {
     push_identifier(out, id);
-    push_bytes(out, b" ");
+    out.push(b' ');
     push_bytes(out, result_name(outcome));
 }
 
-fn push_value(out: &mut EntryText, width: Width, value: Value)
-    requires { length out.old.items + 26 ≤ 64 }
+fn push_value<const N: usize>(out: &mut ArrayVec<u8, N>, width: Width, value: Value)
+    requires { length out.old.items + 26 ≤ N }
     ensures text { out.new.items ≡ out.old.items ++ value_text width value }
     ensures short { length out.new.items ≤ length out.old.items + 26 }
 {
@@ -126,8 +123,8 @@ fn push_value(out: &mut EntryText, width: Width, value: Value)
     }
 }
 
-fn push_ran(out: &mut EntryText, accesses: u32)
-    requires { length out.old.items + 14 ≤ 64 }
+fn push_ran<const N: usize>(out: &mut ArrayVec<u8, N>, accesses: u32)
+    requires { length out.old.items + 14 ≤ N }
     ensures text { out.new.items ≡ out.old.items ++ codes "ran " ++ decimal accesses }
     ensures short { length out.new.items ≤ length out.old.items + 14 }
 {
@@ -135,8 +132,8 @@ fn push_ran(out: &mut EntryText, accesses: u32)
     push_number(out, accesses);
 }
 
-fn push_reply(out: &mut EntryText, width: Width, reply: Reply)
-    requires { length out.old.items + 26 ≤ 64 }
+fn push_reply<const N: usize>(out: &mut ArrayVec<u8, N>, width: Width, reply: Reply)
+    requires { length out.old.items + 26 ≤ N }
     ensures text { out.new.items ≡ out.old.items ++ reply_text width reply }
     ensures short { length out.new.items ≤ length out.old.items + 26 }
 {
@@ -149,8 +146,8 @@ fn push_reply(out: &mut EntryText, width: Width, reply: Reply)
     }
 }
 
-fn push_served(out: &mut EntryText, number: u8, at: u32, wait: u32)
-    requires { length out.old.items + 44 ≤ 64 }
+fn push_served<const N: usize>(out: &mut ArrayVec<u8, N>, number: u8, at: u32, wait: u32)
+    requires { length out.old.items + 44 ≤ N }
     ensures text { out.new.items ≡ out.old.items
         ++ codes "irq " ++ decimal number ++ codes " at " ++ decimal at ++ codes " wait " ++ decimal wait }
     ensures short { length out.new.items ≤ length out.old.items + 44 }
@@ -163,8 +160,8 @@ fn push_served(out: &mut EntryText, number: u8, at: u32, wait: u32)
     push_number(out, wait);
 }
 
-fn push_inner(out: &mut EntryText, width: Width, reply: Reply)
-    requires { length out.old.items + 28 ≤ 64 }
+fn push_inner<const N: usize>(out: &mut ArrayVec<u8, N>, width: Width, reply: Reply)
+    requires { length out.old.items + 28 ≤ N }
     ensures text { out.new.items ≡ out.old.items ++ codes "- " ++ reply_text width reply }
     ensures short { length out.new.items ≤ length out.old.items + 28 }
 {
@@ -172,8 +169,8 @@ fn push_inner(out: &mut EntryText, width: Width, reply: Reply)
     push_reply(out, width, reply);
 }
 
-fn push_shown(out: &mut EntryText, width: Width, entry: Entry)
-    requires { length out.old.items + 44 ≤ 64 }
+fn push_shown<const N: usize>(out: &mut ArrayVec<u8, N>, width: Width, entry: Entry)
+    requires { length out.old.items + 44 ≤ N }
     ensures text { out.new.items ≡ out.old.items ++ shown_entry width entry }
     ensures short { length out.new.items ≤ length out.old.items + 44 }
 {
@@ -184,16 +181,30 @@ fn push_shown(out: &mut EntryText, width: Width, entry: Entry)
     }
 }
 
-/// The trace line of an entry, with its line feed.
+/// Appends the trace line of an entry, with its line feed, where there is room for the longest one.
 #[tactic(auto, unfolding(crate::specs::Trace::entry_text))]
+pub fn push_entry<const N: usize>(
+    out: &mut ArrayVec<u8, N>,
+    number: u32,
+    entry: &Entry,
+    width: Width,
+)
+    requires { length out.old.items + 64 ≤ N }
+    ensures text { out.new.items ≡ out.old.items ++ entry_text width number entry.now }
+    ensures short { length out.new.items ≤ length out.old.items + 64 }
+{
+    push_number(out, number);
+    out.push(b' ');
+    push_shown(out, width, *entry);
+    out.push(b'\n');
+}
+
+/// The trace line of an entry, with its line feed: at most 10 digits, a space, 44 bytes and a line feed.
 pub fn entry_text(number: u32, entry: &Entry, width: Width) -> ArrayVec<u8, 64>
     ensures { result.items ≡ entry_text width number entry.now }
 {
     let mut out = ArrayVec::new();
-    push_number(&mut out, number);
-    push_bytes(&mut out, b" ");
-    push_shown(&mut out, width, *entry);
-    push_bytes(&mut out, b"\n");
+    push_entry(&mut out, number, entry, width);
     out
 }
 

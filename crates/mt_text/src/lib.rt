@@ -17,7 +17,7 @@ mod token;
 mod value;
 
 pub use cursor::Cursor;
-pub use entry::{entry_text, write_entry};
+pub use entry::{entry_text, push_entry, write_entry};
 pub use event_text::LineText;
 pub use laws::{
     canonical_lines_spell_themselves, numbers_have_one_spelling, one_line, reading_is_spelling,

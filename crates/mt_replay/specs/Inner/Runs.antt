@@ -17,7 +17,7 @@ use Rattle.mt_replay.specs.declared.run.Turn.TheVariants as turn
 use Rattle.mt_replay.specs.Input.{Ending, Finished, Failed, cut}
 use Rattle.mt_machine.specs.Machine.{Machine, IsReady}
 use Rattle.mt_replay.specs.Script.{Script, ended, led_by, script_from}
-use Rattle.mt_replay.specs.Changes.{Change, change}
+use Rattle.mt_replay.specs.Changes.{Change, change, IsWritten}
 use Rattle.mt_replay.specs.Outcome.{play_of, steps_touches, lines_text}
 
 -- what is written and done, where nothing is read
@@ -82,11 +82,15 @@ pub record BeginsWith (shape : Shape) (number : ℕ) (lines : List Line) (before
   pub more : Script
   pub script : script_from shape Finished number (cut before) ≡ led_by lines more
 
--- The sink failed: a front of the text of some lines was written.
-pub record Stops (p : Place) (m : Machine) (x : Change) : Type 0 where
+-- The sink failed in the text of a line: that of the lines before it was written, and all these lines were done.
+pub record Stops (p : Place) (m m' : Machine) (x : Change) : Type 0 where
   pub lines : List Line
-  pub written : AppendsFront x.held x.held' (text_at p m lines)
-  pub script : WhereTold x.left x.left' (λ before after. BeginsWith p.shape p.number lines before)
+  pub line : Line
+  pub whole : IsWritten x.held x.held' (text_at p m lines)
+  pub written : AppendsFront x.held x.held' (text_at p m (lines ++ line ∷ []))
+  pub taped : Logs x.tape x.tape' (touches_at p m (lines ++ line ∷ []))
+  pub after : m' ≡ (play_of p.form m (lines ++ line ∷ [])).after
+  pub script : WhereTold x.left x.left' (λ before after. BeginsWith p.shape p.number (lines ++ line ∷ []) before)
 
 -- how a line is judged, before what follows it
 abbrev pub Judging : Type 0
@@ -119,24 +123,30 @@ pub record Refuses (judge : Judging) (m m' : Machine) (end : End) (x : Change) :
   pub taped : Logs x.tape x.tape' []
   pub after : m' ≡ m
 
--- A line was taken whose text could not be written in full.
-pub record CutsOff (p : Place) (judge : Judging) (m : Machine) (x : Change) : Type 0 where
+-- A line was done whose text could not be written in full.
+pub record Breaks (p : Place) (m m' : Machine) (line : Line) (x : Change) : Type 0 where
+  pub written : AppendsFront x.held x.held' (text_at p m (line ∷ []))
+  pub taped : Logs x.tape x.tape' (touches_at p m (line ∷ []))
+  pub after : m' ≡ (play_of p.form m (line ∷ [])).after
+
+-- A line was taken and done whose text could not be written in full.
+pub record CutsOff (p : Place) (judge : Judging) (m m' : Machine) (x : Change) : Type 0 where
   pub line : Line
   pub is : IsTaken judge line
-  pub written : AppendsFront x.held x.held' (text_at p m (line ∷ []))
+  pub breaks : Breaks p m m' line x
 
 -- what came of judging a line
 abbrev pub LineGives : Result Turn StreamFailed → Place → Judging → (m m' : Machine) → Change → Type 0
 LineGives (Ok turn.More) p judge m m' x = TakesLine p judge m m' x
 LineGives (Ok (turn.Ended end)) p judge m m' x = Refuses judge m m' end x
-LineGives (Err failed) p judge m m' x = CutsOff p judge m x
+LineGives (Err failed) p judge m m' x = CutsOff p judge m m' x
 
 -- what came of judging a last line
 abbrev pub LastGives : Result End StreamFailed → Place → Judging → (m m' : Machine) → Change → Type 0
 LastGives (Ok (end.Whole count)) p judge m m' x = (count ≡ p.number) × TakesLine p judge m m' x
 LastGives (Ok (end.Refused line code at)) p judge m m' x = Refuses judge m m' (end.Refused line code at) x
 LastGives (Ok end.Broken) p judge m m' x = ⊥
-LastGives (Err failed) p judge m m' x = CutsOff p judge m x
+LastGives (Err failed) p judge m m' x = CutsOff p judge m m' x
 
 -- what came behind the last line that may be
 abbrev pub PastGives : End → Shape → (left left' : Option (List ℕ)) → Type 0
@@ -146,12 +156,12 @@ PastGives end shape left left' = WhereTold left left' (EndsAt end shape 1000001 
 abbrev pub TurnGives : Result Turn StreamFailed → Place → (m m' : Machine) → Change → Type 0
 TurnGives (Ok turn.More) p m m' x = Goes p m m' (p.number + 1) x
 TurnGives (Ok (turn.Ended end)) p m m' x = Ends p m m' end x
-TurnGives (Err failed) p m m' x = Stops p m x
+TurnGives (Err failed) p m m' x = Stops p m m' x
 
 -- what came of a script from a line on
 abbrev pub ScriptGives : Result End StreamFailed → Place → (m m' : Machine) → Change → Type 0
 ScriptGives (Ok end) p m m' x = Ends p m m' end x
-ScriptGives (Err failed) p m m' x = Stops p m x
+ScriptGives (Err failed) p m m' x = Stops p m m' x
 
 -- only where the source failed has its count of faults risen, and only where the sink failed that of the sink
 abbrev pub EndCaused : End → (source source' : ℕ) → Type 0

@@ -19,12 +19,12 @@ returns-in-Ok-clause-gives g c = λ a h was defect before config task begun begi
 pub returns-in-Err-clause-gives : goal.returns-in-Err-clause-gives
 returns-in-Err-clause-gives g c = λ a h was defect before config task begun begins.
     let m = machine (g.B.Port.state c.args.board.now) c.args.modules.now in
-    let stops = c.in-Err.ensures.gives in
+    let m' = machine (g.B.Port.state c.run_script.new.board) c.run_script.new.modules in
     let told = g.B.Port.tape c.args.board.now in
-    stopped_job c.args.task.now.form config c.args.task.now defect m before (g.B.Port.state c.run_script.new.board) stops.lines c.run_script.new.input a
+    stopped_job c.args.task.now.form config c.args.task.now defect m m' before c.run_script.new.input a
     (prepend_known c.args.input.now (g.S.Source.left c.args.source.now)) (g.S.Source.left c.run_script.new.source) h (g.K.Sink.held c.args.sink.now) (g.K.Sink.held c.run_script.new.sink) was told
     (g.B.Port.tape c.run_script.new.board) (g.S.Source.faults c.args.source.now) (g.S.Source.faults c.run_script.new.source)
-    task begun begins c.in-Err.ensures.cause.0 stops.written stops.script
+    task begun begins c.in-Err.ensures.cause.0 c.in-Err.ensures.gives c.run_script.ensures.board
 
 pub returns-in-Ok-clause-cause : goal.returns-in-Ok-clause-cause
 returns-in-Ok-clause-cause g c = ended_caused c.tell_end.result c.in-Ok.end _ _ _ _ _ _ _ _ c.in-Ok.ensures.cause.0 c.in-Ok.ensures.cause.1 c.tell_end.ensures

@@ -20,7 +20,7 @@ returns-in-Some-clause-err g c =
     let m : Machine = machine (g.B.Port.state c.args.board.now) c.args.modules.now in
     let m' : Machine = machine (g.B.Port.state c.perform.new.board) c.perform.new.modules in
     let steps = c.in-Some.ensures.gives in
-    on_err_weaker c.write_answer.result (λ front. played_front c.args.shape m m' c.args.number c.args.desk.now.line _ _ _ _ _ steps front) c.write_answer.ensures.err
+    on_err_weaker c.write_answer.result (λ front. played_front c.args.shape m m' c.args.number c.args.desk.now.line _ _ steps front) c.write_answer.ensures.err
 
 pub returns-in-None-clause-board : goal.returns-in-None-clause-board
 returns-in-None-clause-board g c =

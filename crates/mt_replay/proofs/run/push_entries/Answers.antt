@@ -1,4 +1,4 @@
-use Rattle.std.proofs.Common.{ℕ, ◌∙◌, List, length, length-append, ap, sym, arith}
+use Rattle.std.proofs.Common.{ℕ, ◌∙◌, List, length, ap, refl, sym, arith}
 use Rattle.mt_replay.proofs.Texts.{entries_text-nil, entries_text-more}
 use Rattle.mt_replay.proofs.run.push_entries.Goals as goal
 
@@ -12,8 +12,7 @@ pub loop-entry-preserved : goal.loop-entry-preserved
 loop-entry-preserved c =
     let all = c.args.entries.now in
     let k = c.loop-entry.entry-index in
-    let long = ap (λ (l : List ℕ). length l) c.push_text.ensures ∙ length-append c.loop-entry.page.items c.deref.result.now in
     record {
-      text = c.push_text.ensures ∙ entries_text-more c.trace_lines_stand_in_order.ensures.more c.args.width c.args.number all k _ c.loop-entry.page.items c.deref.result.now c.loop-entry-test.true c.loop-entry.invariant.text (c.deref.ensures.0 ∙ c.entry_text.ensures);
-      short = omega (arith, long, c.loop-entry.invariant.short, c.deref.ensures.1);
+      text = c.push_entry.ensures.text ∙ entries_text-more c.trace_lines_stand_in_order.ensures.more c.args.width c.args.number all k _ c.loop-entry.page.items _ c.loop-entry-test.true c.loop-entry.invariant.text refl;
+      short = omega (arith, c.push_entry.ensures.short, c.loop-entry.invariant.short);
     }

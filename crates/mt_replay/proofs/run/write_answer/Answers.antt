@@ -13,9 +13,8 @@ pub returns-clause-ok : goal.returns-clause-ok
 returns-clause-ok g c =
     let entries = ap (λ (l : List Entry). entries_text c.args.width c.args.number l) c.entries.ensures.entries in
     let page =
-    c.deref-2.ensures.0
-    ∙ c.push_text.ensures
-    ∙ ap (λ (l : List ℕ). c.push_entries.new.page.items ++ l) (c.deref.ensures.0 ∙ c.entry_text.ensures)
+    c.deref.ensures.0
+    ∙ c.push_entry.ensures.text
     ∙ ap (λ (l : List ℕ). l ++ entry_text c.args.width c.args.number (Own c.args.reply)) (c.push_entries.ensures.text ∙ entries)
     ∙ sym (entries_text-then c.trace_lines_stand_in_order.ensures.more c.args.width c.args.number c.args.log.now (Own c.args.reply)) in
     on_ok_weaker c.put.result (subst (Appends (g.K.Sink.held c.args.sink.now) (g.K.Sink.held c.put.new.sink)) page) c.put.ensures.ok
@@ -24,9 +23,8 @@ pub returns-clause-err : goal.returns-clause-err
 returns-clause-err g c =
     let entries = ap (λ (l : List Entry). entries_text c.args.width c.args.number l) c.entries.ensures.entries in
     let page =
-    c.deref-2.ensures.0
-    ∙ c.push_text.ensures
-    ∙ ap (λ (l : List ℕ). c.push_entries.new.page.items ++ l) (c.deref.ensures.0 ∙ c.entry_text.ensures)
+    c.deref.ensures.0
+    ∙ c.push_entry.ensures.text
     ∙ ap (λ (l : List ℕ). l ++ entry_text c.args.width c.args.number (Own c.args.reply)) (c.push_entries.ensures.text ∙ entries)
     ∙ sym (entries_text-then c.trace_lines_stand_in_order.ensures.more c.args.width c.args.number c.args.log.now (Own c.args.reply)) in
     on_err_weaker c.put.result (subst (AppendsFront (g.K.Sink.held c.args.sink.now) (g.K.Sink.held c.put.new.sink)) page) c.put.ensures.err
