@@ -2,6 +2,7 @@
 use Rattle.std.proofs.Common.{ℕ, ◌+◌, ◌≡◌, List, [], ◌∷◌, ◌++◌, length, take, ◌≤◌, Option, Some, None, ◌⊎◌, inl, inr, refl, sym, ap, ◌∙◌, subst, arith, append_assoc}
 use Rattle.std.proofs.lemmas.Bool.{lt-leb, lt-ltb}
 use Rattle.std.proofs.lemmas.List.{take_all}
+use Rattle.std.proofs.Math.Seq.{take-append-add}
 use Rattle.std.specs.Io.KnownBytes.{prepend_known, Appends}
 use Rattle.mt_port.specs.Causes.{Rose}
 use Rattle.mt_port.specs.Streams.{WhereTold, AppendsFront}
@@ -288,8 +289,7 @@ lines_before [] line more = refl
 lines_before (first ∷ lines) line more = ap (λ (l : List Line). first ∷ l) (lines_before lines line more)
 
 lines_up_to : (lines : List Line) (line : Line) (more : List Line) → take (length lines + 1) ((lines ++ line ∷ []) ++ more) ≡ lines ++ line ∷ []
-lines_up_to [] line more = refl
-lines_up_to (first ∷ lines) line more = ap (λ (l : List Line). first ∷ l) (lines_up_to lines line more)
+lines_up_to lines line more = ap (take (length lines + 1)) (append_assoc lines (line ∷ []) more) ∙ take-append-add lines (line ∷ more) 1
 
 -- the sink failed in the text of a line
 pub stopped_job : (form : Form) (c : Config) (task : Task) (defect : Option MemoryFault) (m m' : Machine) (before : Board) (held : List ℕ) (a b left h h' hend : Option (List ℕ))
@@ -302,8 +302,8 @@ stopped_job form c task defect m m' before held a b left h h' hend was tape tape
     let lines = s.lines ++ s.line ∷ [] in
     let opening = opening_text form c in
     let chosen = told_with (ended end.Broken) a left (λ more x z. outcome form Finished defect x ≡ scripted form c m (led_by lines more))
-        (told_through a b held left _ begins s.script (λ x y z u w.
-        (w.more, ap (outcome form Finished defect) u.taken ∙ begins_is form c defect m before was tape x y u Finished y (led_by lines w.more) begun.machine w.script))) in
+    (told_through a b held left _ begins s.script (λ x y z u w.
+    (w.more, ap (outcome form Finished defect) u.taken ∙ begins_is form c defect m before was tape x y u Finished y (led_by lines w.more) begun.machine w.script))) in
     let more = chosen.0 in
     let first = lines_text form c.shape m 1 lines in
     let front = AppendsFront-after h h' hend opening first begun.written s.written in
@@ -339,7 +339,7 @@ failed_job status.NoMemory form c behind defect old new held a left h h' was tap
 failed_job status.WriteFault form c behind defect old new held a left h h' was tape' source sink sink' fails begins =
     let m = started c defect in
     let chosen = told_with (ended end.Broken) a left (λ script x z. outcome form Finished defect x ≡ scripted form c m script)
-        (told_behind a held left _ begins (λ x z t. by behind x (held ++ z) t)) in
+    (told_behind a held left _ begins (λ x z t. by behind x (held ++ z) t)) in
     let lines = lines_text form c.shape m 1 chosen.0.lines in
     record {
       outcome = scripted form c m chosen.0;
