@@ -26,9 +26,9 @@ use Rattle.mt_ram.specs.declared.state.State.{State}
 use Rattle.mt_ram.specs.declared.state.State.TheVariants.{Uninit, Stopped, Running, Suspended, Full, Partial}
 use Rattle.mt_ram.specs.State.{RamTst, set_of, spans_in}
 use Rattle.mt_ram.specs.Results.{failed_after}
-use Rattle.mt_ram.specs.Table.{Service, MainFunction, RunFullTest, RunPartialTest, RamCell, cell, row, testing, in_state, ram_table}
+use Rattle.mt_ram.specs.Table.{Service, MainFunction, RunFullTest, RunPartialTest, RamCell, cell, testing, in_state, ram_table}
 use Rattle.mt_ram.specs.Event.{attempting, running, ticking, full_test, passed, with_result}
-use Rattle.mt_ram.specs.Laws.{IsSliceOf, IsAtSlice, TriesSlices, PartialTestsTrySlices}
+use Rattle.mt_ram.specs.Laws.{IsSliceOf, TestsItsSet, PartialTestsTestTheirSet, IsAtSlice, TriesSlices, PartialTestsTrySlices}
 use Rattle.mt_ram.proofs.Moves.{boundaries_move}
 
 -- ---- the slices of a set
@@ -114,6 +114,15 @@ partial_tests r block (Suspended x) = one_tests r block (Partial (Some x)) (Susp
 partial_tests r block Full = refused_tests r refusal.Status
 partial_tests r block (Partial back) = refused_tests r refusal.Status
 
+pub tick_tests_set : TestsItsSet ticking
+tick_tests_set = record { work = λ r. (tick_tests r r.state).work; inside = λ r. (tick_tests r r.state).inside }
+
+pub full_tests_set : TestsItsSet full_test
+full_tests_set = record { work = λ r. (full_tests r r.state).work; inside = λ r. (full_tests r r.state).inside }
+
+pub partial_tests_set : PartialTestsTestTheirSet
+partial_tests_set block = record { work = λ r. (partial_tests r block r.state).work; inside = λ r. (partial_tests r block r.state).inside }
+
 -- ---- attempts
 
 abbrev KeepsSet : (RamTst → Piece → Verdict → Bool → RamTst) → Type 0
@@ -161,24 +170,23 @@ module _ (stops : RamTst → Bool) (taken : RamTst → Piece → Verdict → Boo
       slices-follow set more (tried these (these.retries g.scene.callee) p g) (All-tail (IsSliceOf set) p more all)
       (tried-follows set (these.retries g.scene.callee) p g (All-head (IsSliceOf set) p more all) h)
 
-  -- an event whose cell has its set's slices tested
-  event-follows : (service : Service) → ((r : RamTst) → CellTests r (row r service)) → TriesSlices (running these service)
+  -- an event that tests its set's slices
+  event-follows : (service : Service) → TestsItsSet (running these service) → TriesSlices (running these service)
   event-follows service tests s =
       let call = running these service in
       let o = opened call s in
       let set = set_of s.callee in
       let selected : set_of o.callee ≡ set = boundary-set (scene s.board (call.cleared s.callee) s.log) in
-      let cell = tests o.callee in
-      (slices-follow set (call.work o.callee) (entered call o) (subst (λ (q : ParamSet). All (IsSliceOf q) (call.work o.callee)) selected cell.work)
-      (record { selected = cell.inside ∙ selected; attempts = All-nil (IsAtSlice set) })).attempts
+      (slices-follow set (call.work o.callee) (entered call o) (subst (λ (q : ParamSet). All (IsSliceOf q) (call.work o.callee)) selected (tests.work o.callee))
+      (record { selected = tests.inside o.callee ∙ selected; attempts = All-nil (IsAtSlice set) })).attempts
 
 -- ---- the running calls
 
 pub tick_tries_slices : TriesSlices ticking
-tick_tries_slices = event-follows (λ r. r.mark) (λ r p v failed. passed r p v) (λ p v failed. failed) (λ r p v failed. refl) MainFunction (λ r. tick_tests r r.state)
+tick_tries_slices = event-follows (λ r. r.mark) (λ r p v failed. passed r p v) (λ p v failed. failed) (λ r p v failed. refl) MainFunction tick_tests_set
 
 pub full_tries_slices : TriesSlices full_test
-full_tries_slices = event-follows (λ r. false) with_result (λ p v failed. failed_after v failed p.last) (λ r p v failed. refl) RunFullTest (λ r. full_tests r r.state)
+full_tries_slices = event-follows (λ r. false) with_result (λ p v failed. failed_after v failed p.last) (λ r p v failed. refl) RunFullTest full_tests_set
 
 pub partial_tries_slices : PartialTestsTrySlices
-partial_tries_slices block = event-follows (λ r. false) with_result (λ p v failed. failed_after v failed p.last) (λ r p v failed. refl) (RunPartialTest block) (λ r. partial_tests r block r.state)
+partial_tries_slices block = event-follows (λ r. false) with_result (λ p v failed. failed_after v failed p.last) (λ r p v failed. refl) (RunPartialTest block) (partial_tests_set block)

@@ -27,6 +27,14 @@ PartialTestsMakeShortAttempts = (block : ℕ) → MakesShortAttempts (partial_te
 abbrev pub IsSliceOf : ParamSet → Piece → Type 0
 IsSliceOf set p = Contains (pass set.atomic (spans_of set.blocks)) p
 
+-- what a running call tests are slices of a pass over the selected set, which stays selected
+pub record TestsItsSet (call : Events RamTst Piece Verdict) : Type 0 where
+  pub work : (r : RamTst) → All (IsSliceOf (set_of r)) (call.work r)
+  pub inside : (r : RamTst) → set_of (call.inside r) ≡ set_of r
+
+abbrev pub PartialTestsTestTheirSet : Type 0
+PartialTestsTestTheirSet = (block : ℕ) → TestsItsSet (partial_test block)
+
 -- An attempt at such a slice: the whole sequence has the accesses of the set's algorithm on the words of the slice, and of its block's policy.
 pub record IsAtSlice (set : ParamSet) (a : Attempt) : Type 0 where
   pub slice : Piece
