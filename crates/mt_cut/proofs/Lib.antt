@@ -3,4 +3,5 @@ pub mod Greedy
 pub mod Ahead
 pub mod Places
 pub mod Largest
+pub mod Bounds
 pub mod Example

@@ -1,5 +1,5 @@
 -- The greatest slice for a wait.
-use Rattle.std.specs.Prelude.{ℕ, suc, zero, ◌-◌, ◌<◌, ◌≤◌, Bool, All, Option, Some, None, if◌then◌else◌, nat_le}
+use Rattle.std.specs.Prelude.{ℕ, suc, zero, ◌-◌, ◌<◌, ◌≤◌, Bool, All, Contains, Option, Some, None, if◌then◌else◌, nat_le}
 use Rattle.std.specs.List.{list_all}
 use Rattle.mt_plan.specs.Plan.{hold_of}
 use Rattle.mt_blocks.specs.declared.config.Block.{Block}
@@ -18,6 +18,13 @@ pub record IsLargest (set : ParamSet) (wait words : ℕ) : Type 0 where
 
 abbrev pub HasNoLargest : ParamSet → ℕ → Type 0
 HasNoLargest set wait = (words : ℕ) → 1 ≤ words → words ≤ 64 → ¬ WaitsAtMost set wait words
+
+-- Of such a number of words and of fewer, a request that waits less than the sequence has accesses waits at most so long. So does one that
+-- comes while the sequence runs, and is served at its end.
+abbrev pub LargestBoundsWaits : Type 0
+LargestBoundsWaits =
+    (set : ParamSet) (wait words fewer waited : ℕ) (b : Block) → IsLargest set wait words → fewer ≤ words → Contains set.blocks b
+    → waited < hold_of set.alg b.policy fewer → waited ≤ wait
 
 -- the same as a test, and as a search from a number down
 abbrev pub waits_at_most : ParamSet → (wait words : ℕ) → Bool

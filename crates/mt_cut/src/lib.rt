@@ -7,7 +7,7 @@ mod run;
 mod step;
 
 pub use atomic::largest_atomic;
-pub use laws::longest_runs_are_least;
+pub use laws::{greatest_slices_bound_waits, longest_runs_are_least};
 pub use run::{Above, Run, first_above, least_ticks, next_run, run_from};
 pub use step::pass_start;
 

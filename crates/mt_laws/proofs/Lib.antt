@@ -1,4 +1,6 @@
 mod Latencies
+mod Calls
+mod Bounds
 mod Pieces
 mod Phases
 mod Memories

@@ -1,10 +1,6 @@
 -- On sound memory the application of a replay finds a plain memory.
-use Rattle.std.proofs.Common.{ℕ, zero, suc, ◌≡◌, ◌+◌, ◌/◌, ◌<◌, ◌≤◌, Bool, true, false, cond, List, [], ◌∷◌, ◌++◌, ◌≢◌, length, map, drop, get_or, All, Option, Some, None, refl, sym, ap, ◌∙◌, subst, arith, append-nil}
-use Rattle.std.proofs.Math.Seq.{take-append_seam, drop-append_seam}
-use Rattle.std.proofs.lemmas.Bool.{ltb-true}
-use Rattle.std.proofs.lemmas.List.{drop_more, length-map}
-use Rattle.std.proofs.lemmas.List.Elements.{All-nil, All-push, All-head, All-tail, All-take, All-drop}
-use Rattle.std.specs.Prelude.{nat_lt, Contains}
+use Rattle.std.proofs.Common.{ℕ, ◌≡◌, ◌≤◌, Bool, List, [], ◌∷◌, ◌++◌, ◌≢◌, length, map, All, Option, Some, None, refl, sym, ap, ◌∙◌, subst, arith, append-nil}
+use Rattle.std.proofs.lemmas.List.Elements.{All-nil, All-push, All-head, All-tail}
 use Rattle.mt_plan.specs.declared.algorithm.Policy.{Policy}
 use Rattle.mt_plan.specs.declared.algorithm.Policy.TheVariants.{NonDestructive, Destructive}
 use Rattle.mt_port.specs.Board.{Board}
@@ -22,24 +18,16 @@ use Rattle.mt_seq.specs.Laws.{DroppedAttemptsStay, WholeAttemptsPass, left_words
 use Rattle.mt_window.specs.declared.log.Entry.TheVariants.{Own}
 use Rattle.mt_window.specs.declared.reply.Reply.{Reply}
 use Rattle.mt_window.specs.Serving.{Scene, given}
-use Rattle.mt_window.specs.declared.reply.Refusal.{Refusal}
-use Rattle.mt_window.specs.declared.reply.Refusal.TheVariants as refusal
-use Rattle.mt_window.specs.Rows.{Refuses, Runs, work_in, inside_of}
 use Rattle.mt_window.specs.Events.{Running as Events, event as event_of}
 use Rattle.mt_window.specs.Kept.{IsInvariant, EntersSound}
-use Rattle.mt_blocks.specs.declared.config.Block.{Block}
 use Rattle.mt_blocks.specs.declared.config.ParamSet.{ParamSet}
-use Rattle.mt_blocks.specs.declared.span.Span.{Span}
-use Rattle.mt_blocks.specs.declared.pass.Position.{Position}
-use Rattle.mt_blocks.specs.Groups.{group, group_len}
-use Rattle.mt_blocks.specs.Slices.{Piece, pieces, pieces_from, pass, from_place, span_at, no_span}
-use Rattle.mt_blocks.specs.Accepted.{block_at, spans_of}
-use Rattle.mt_ram.specs.declared.state.State.{State}
-use Rattle.mt_ram.specs.declared.state.State.TheVariants as state
-use Rattle.mt_ram.specs.declared.state.State.TheVariants.{Uninit, Stopped, Suspended, Full, Partial}
+use Rattle.mt_blocks.specs.Slices.{Piece}
+use Rattle.mt_blocks.specs.Accepted.{block_at}
 use Rattle.mt_ram.specs.State.{Setting, RamTst, set_of}
-use Rattle.mt_ram.specs.Table.{Service, MainFunction, RunFullTest, RunPartialTest, RamCell, cell, testing, in_state, ram_table}
+use Rattle.mt_ram.specs.Table.{Service, MainFunction, RunFullTest, RunPartialTest, ram_table}
 use Rattle.mt_ram.specs.Moves.{row-moves}
+use Rattle.mt_ram.specs.Kept.{cell_leaves}
+use Rattle.mt_ram.specs.Laws.{IsSliceOf, TestsItsSet}
 use Rattle.mt_ram.specs.Event.{job_of as test_of, of_pass, of_test}
 use Rattle.mt_ram.specs.Plain.{HasAcceptedMarches}
 use Rattle.mt_fls.specs.Table as fls_table
@@ -53,56 +41,6 @@ use Rattle.mt_laws.specs.Plain.{InjectsNothing}
 use Rattle.mt_laws.specs.Memory.{Deed, Operates, IsDeedOf, words_after, answers_of, operations_among, fills_among, handled, operations_in, operations_of, inner_replies, replies_in, replies_of, IsPlain, ArePlain, MemoryIsPlain}
 use Rattle.mt_laws.proofs.Memories.{LeavesWords, IsLeft, Same, Filled, event-found, words-plain, answer-plain, inner-append}
 use Rattle.mt_laws.proofs.Plain.{LeaveNoTrace, IsSound, step-sound, accepted-marches}
-
--- ---- the slices of a set
-
--- a slice of a pass over a set
-abbrev IsSliceOf : ParamSet → Piece → Type 0
-IsSliceOf set p = Contains (pass set.atomic (spans_of set.blocks)) p
-
-all_own : {X : Type 0} (L : List X) → All (Contains L) L
-all_own {X} L k d h = (k, h, same L k d (get_or L k d) h)
-  where
-    same : (L : List X) (k : ℕ) (d e : X) → k < length L → get_or L k e ≡ get_or L k d
-    same [] k d e h = absurd (omega (arith, h))
-    same (x ∷ L) zero d e h = refl
-    same (x ∷ L) (suc k) d e h = same L k d e (omega (arith, h))
-
-all_behind : {X : Type 0} (P : X → Type 0) (xs ys : List X) → All P (xs ++ ys) → All P ys
-all_behind P xs ys h = subst (All P) (drop-append_seam xs ys) (All-drop P (length xs) (xs ++ ys) h)
-
-all_before : {X : Type 0} (P : X → Type 0) (xs ys : List X) → All P (xs ++ ys) → All P xs
-all_before P xs ys h = subst (All P) (take-append_seam xs ys) (All-take P (length xs) (xs ++ ys) h)
-
--- the slices from a block on are among those from an earlier one on
-later_slices : (P : Piece → Type 0) (K i b : ℕ) (spans : List Span) → All P (pieces_from K i spans) → All P (pieces_from K (i + b) (drop b spans))
-later_slices P K i zero spans h = subst (λ (n : ℕ). All P (pieces_from K n spans)) (omega arith) h
-later_slices P K i (suc b) [] h = All-nil P
-later_slices P K i (suc b) (s ∷ spans) h =
-    subst (λ (n : ℕ). All P (pieces_from K n (drop b spans))) (omega arith) (later_slices P K (i + 1) b spans (all_behind P (pieces K i s) (pieces_from K (i + 1) spans) h))
-
-from_first : (set : ParamSet) (block : ℕ) → All (IsSliceOf set) (pieces_from set.atomic block (drop block (spans_of set.blocks)))
-from_first set block =
-    let K = set.atomic in
-    let spans = spans_of set.blocks in
-    let first : 0 + block ≡ block = omega arith in
-    subst (λ (n : ℕ). All (IsSliceOf set) (pieces_from K n (drop block spans))) first (later_slices (IsSliceOf set) K 0 block spans (all_own (pass K spans)))
-
-place_slices : (set : ParamSet) (x : Position) → All (IsSliceOf set) (from_place set.atomic (spans_of set.blocks) x)
-unfolding from_place
-place_slices set x =
-    let K = set.atomic in
-    let spans = spans_of set.blocks in
-    All-drop (IsSliceOf set) (x.offset / K) (pieces_from K x.block (drop x.block spans))
-    (from_first set x.block)
-
-block_slices : (set : ParamSet) (block : ℕ) → block < length (spans_of set.blocks) → All (IsSliceOf set) (pieces set.atomic block (span_at (spans_of set.blocks) block))
-block_slices set block inside =
-    let K = set.atomic in
-    let spans = spans_of set.blocks in
-    let own = span_at spans block in
-    all_before (IsSliceOf set) (pieces K block own) (pieces_from K (block + 1) (drop (block + 1) spans))
-    (subst (λ (l : List Span). All (IsSliceOf set) (pieces_from K block l)) (drop_more spans block no_span inside) (from_first set block))
 
 -- ---- the module
 
@@ -122,63 +60,11 @@ pass_kept set = record { taken = λ r p v failed h. h; row = row-keeps set }
 test_kept : (set : ParamSet) → IsInvariant of_test (Keeps set)
 test_kept set = record { taken = λ r p v failed h. h; row = row-keeps set }
 
--- the cell of a running call: the module inside it, and its slices
-record CellTests (set : ParamSet) (r : RamTst) (c : RamCell) : Type 0 where
-  inside : Keeps set (inside_of c r)
-  work : All (IsSliceOf set) (work_in c)
-
-refused_tests : (set : ParamSet) (r : RamTst) (why : Refusal) → Keeps set r → CellTests set r (Refuses why)
-refused_tests set r why h = record { inside = h; work = All-nil (IsSliceOf set) }
-
-tick_tests : (set : ParamSet) (r : RamTst) (s : State) → Keeps set r → CellTests set r (cell r MainFunction s)
-tick_tests set r Uninit h = refused_tests set r refusal.Uninit h
-tick_tests set r Stopped h = record { inside = h; work = All-nil (IsSliceOf set) }
-tick_tests set r (state.Running x) h = record {
-  inside = h;
-  work = subst (λ (q : ParamSet). All (IsSliceOf set) (group r.cells (from_place q.atomic (spans_of q.blocks) x))) (sym h.1)
-      (All-take (IsSliceOf set) (group_len r.cells (from_place set.atomic (spans_of set.blocks) x)) (from_place set.atomic (spans_of set.blocks) x) (place_slices set x));
-}
-tick_tests set r (Suspended x) h = record { inside = h; work = All-nil (IsSliceOf set) }
-tick_tests set r Full h = record { inside = h; work = All-nil (IsSliceOf set) }
-tick_tests set r (Partial back) h = record { inside = h; work = All-nil (IsSliceOf set) }
-
-full_tests : (set : ParamSet) (r : RamTst) (s : State) → Keeps set r → CellTests set r (cell r RunFullTest s)
-full_tests set r Uninit h = refused_tests set r refusal.Uninit h
-full_tests set r Stopped h = record {
-  inside = h;
-  work = subst (λ (q : ParamSet). All (IsSliceOf set) (pass q.atomic (spans_of q.blocks))) (sym h.1) (all_own (pass set.atomic (spans_of set.blocks)));
-}
-full_tests set r (state.Running x) h = refused_tests set r refusal.Status h
-full_tests set r (Suspended x) h = refused_tests set r refusal.Status h
-full_tests set r Full h = refused_tests set r refusal.Status h
-full_tests set r (Partial back) h = refused_tests set r refusal.Status h
-
-one_tests : (set : ParamSet) (r : RamTst) (block : ℕ) (inside back : State) → Keeps set r → CellTests set r (testing r block inside back)
-one_tests set r block inside back h = of (nat_lt block (length (set_of r).blocks)) refl
-  where
-    of : (b : Bool) → nat_lt block (length (set_of r).blocks) ≡ b
-        → CellTests set r (cond b (Runs (pieces (set_of r).atomic block (span_at (spans_of (set_of r).blocks) block)) (in_state inside) (in_state back)) (Refuses refusal.Range))
-    of true e = record {
-      inside = h;
-      work = subst (λ (q : ParamSet). All (IsSliceOf set) (pieces q.atomic block (span_at (spans_of q.blocks) block))) (sym h.1)
-          (block_slices set block
-          (let few : block < length (set_of r).blocks = ltb-true block (length (set_of r).blocks) e in
-          subst (λ (q : ParamSet). block < length (spans_of q.blocks)) h.1 (omega (arith, few, length-map (set_of r).blocks (λ (b : Block). b.span)))));
-    }
-    of false e = refused_tests set r refusal.Range h
-
-partial_tests : (set : ParamSet) (r : RamTst) (block : ℕ) (s : State) → Keeps set r → CellTests set r (cell r (RunPartialTest block) s)
-partial_tests set r block Uninit h = refused_tests set r refusal.Uninit h
-partial_tests set r block Stopped h = one_tests set r block (Partial None) Stopped h
-partial_tests set r block (state.Running x) h = refused_tests set r refusal.Status h
-partial_tests set r block (Suspended x) h = one_tests set r block (Partial (Some x)) (Suspended x) h
-partial_tests set r block Full h = refused_tests set r refusal.Status h
-partial_tests set r block (Partial back) h = refused_tests set r refusal.Status h
-
 -- ---- attempts
 
--- what is known of attempts on sound memory
+-- what is known of running calls, and of attempts on sound memory
 pub record Attempts : Type 0 where
+  pub tests : (call : Running) → TestsItsSet (events_of call)
   pub stays : DroppedAttemptsStay
   pub passes : WholeAttemptsPass
 
@@ -234,20 +120,35 @@ running-finds {C} with over call I J m leaves enters c requests fault holds =
 abbrev Accepted : Machine → Type 0
 Accepted m = HasAcceptedMarches m.modules.ram.setting
 
+-- a running call tests slices of the set
+slices-tested : (set : ParamSet) (call : Running) → TestsItsSet (events_of call) → (r : RamTst) → Keeps set r → All (IsSliceOf set) ((events_of call).work r)
+slices-tested set call tests r h = subst (λ (q : ParamSet). All (IsSliceOf q) ((events_of call).work r)) h.1 (tests.work r)
+
+leaves : Attempts → (set : ParamSet) (call : Running) → LeavesWords (events_of call) (Keeps set) (IsSliceOf set) set
+leaves known set rams.Tick = record { words = attempt-leaves known set; work = slices-tested set rams.Tick (known.tests rams.Tick) }
+leaves known set rams.Full = record { words = attempt-leaves known set; work = slices-tested set rams.Full (known.tests rams.Full) }
+leaves known set (rams.Partial block) = record { words = attempt-leaves known set; work = slices-tested set (rams.Partial block) (known.tests (rams.Partial block)) }
+
+-- and keeps the set and the marches
+inside-keeps : (set : ParamSet) (r q : RamTst) → q.setting ≡ r.setting → set_of q ≡ set_of r → Keeps set r → Keeps set q
+inside-keeps set r q setting selected h = (subst HasAcceptedMarches (sym setting) h.0, selected ∙ h.1)
+
+enters : Attempts → (set : ParamSet) (call : Running) → EntersSound (events_of call) (Keeps set)
+enters known set rams.Tick =
+    record { tests = pass_kept set; cleared = λ r h. h; inside = λ r h. inside-keeps set r ((events_of rams.Tick).inside r) ((cell_leaves r MainFunction r.state).1 r).0 ((known.tests rams.Tick).inside r) h }
+enters known set rams.Full =
+    record { tests = test_kept set; cleared = λ r h. h; inside = λ r h. inside-keeps set r ((events_of rams.Full).inside r) ((cell_leaves r RunFullTest r.state).1 r).0 ((known.tests rams.Full).inside r) h }
+enters known set (rams.Partial block) = record {
+  tests = test_kept set;
+  cleared = λ r h. h;
+  inside = λ r h. inside-keeps set r ((events_of (rams.Partial block)).inside r) ((cell_leaves r (RunPartialTest block) r.state).1 r).0 ((known.tests (rams.Partial block)).inside r) h;
+}
+
 ram-event : Attempts → (call : Running) (m : Machine) (requests : List Request) → m.board.fault ≡ None → Accepted m
     → HandlersFind m (running (with_ram m.modules) (events_of call) (begun m.board m.modules.ram requests))
-ram-event known rams.Tick m requests fault holds =
+ram-event known call m requests fault holds =
     let set = set_of m.modules.ram in
-    running-finds (with_ram m.modules) (λ b c. refl) (events_of rams.Tick) (Keeps set) (IsSliceOf set) m (record { words = attempt-leaves known set; work = λ r h. (tick_tests set r r.state h).work })
-    (record { tests = pass_kept set; cleared = λ r h. h; inside = λ r h. (tick_tests set r r.state h).inside }) m.modules.ram requests fault (holds, refl)
-ram-event known rams.Full m requests fault holds =
-    let set = set_of m.modules.ram in
-    running-finds (with_ram m.modules) (λ b c. refl) (events_of rams.Full) (Keeps set) (IsSliceOf set) m (record { words = attempt-leaves known set; work = λ r h. (full_tests set r r.state h).work })
-    (record { tests = test_kept set; cleared = λ r h. h; inside = λ r h. (full_tests set r r.state h).inside }) m.modules.ram requests fault (holds, refl)
-ram-event known (rams.Partial block) m requests fault holds =
-    let set = set_of m.modules.ram in
-    running-finds (with_ram m.modules) (λ b c. refl) (events_of (rams.Partial block)) (Keeps set) (IsSliceOf set) m (record { words = attempt-leaves known set; work = λ r h. (partial_tests set r block r.state h).work })
-    (record { tests = test_kept set; cleared = λ r h. h; inside = λ r h. (partial_tests set r block r.state h).inside }) m.modules.ram requests fault (holds, refl)
+    running-finds (with_ram m.modules) (λ b c. refl) (events_of call) (Keeps set) (IsSliceOf set) m (leaves known set call) (enters known set call) m.modules.ram requests fault (holds, refl)
 
 -- a comparison leaves the words
 abbrev Always : {X : Type 0} → X → Type 0

@@ -3,19 +3,20 @@
 ghost use Rattle.mt_laws.specs.Alarms.{FlsRaisesNoFalseAlarm, RamRaisesNoFalseAlarm};
 ghost use Rattle.mt_laws.specs.Detection.{PassesFindFaults};
 ghost use Rattle.mt_laws.specs.Evidence.{OkIsEvidence};
-ghost use Rattle.mt_laws.specs.Latency.{RequestsAreServedInTime};
+ghost use Rattle.mt_laws.specs.Latency.{LinesWaitUpTo, RequestsAreServedInTime, ScriptsWaitUpTo};
 ghost use Rattle.mt_laws.specs.Memory.{MemoryIsPlain};
 ghost use Rattle.mt_laws.specs.Plain.{TestsLeaveNoTrace};
 
 use mt_blocks::{groups_take_a_tick, passes_begin, passes_go_on};
 use mt_cover::{attempts_detect, attempts_stay_sound};
+use mt_cut::greatest_slices_bound_waits;
 use mt_fault::{memory_stays_sound, placement_is_tested, sound_memory_comes_and_goes};
 use mt_fls::waits_of_running_calls as fls_waits;
 use mt_machine::lines_keep_the_board;
 use mt_ram::{
-    accepted_sets_are_sound, results_are_reset, running_calls_leave_setting,
-    services_leave_setting, tests_leave_no_trace as ram_leaves_no_trace,
-    waits_of_running_calls as ram_waits,
+    accepted_sets_are_sound, attempts_are_at_slices, attempts_of_running_calls, results_are_reset,
+    running_calls_leave_setting, running_calls_test_their_set, services_leave_setting,
+    tests_leave_no_trace as ram_leaves_no_trace, waits_of_running_calls as ram_waits,
 };
 use mt_seq::{attempts_on_sound_memory, comparisons_are_exact};
 
@@ -26,6 +27,20 @@ pub fn requests_are_served_in_time()
 {
     ram_waits();
     fls_waits();
+}
+
+/// Where the slices of RamTst's set have at most as many words as the greatest slice for a wait, each request of a line that runs
+/// RamTst waits at most so long, urgent or not. So the number that `cut` writes for a wait keeps to it.
+pub fn slices_bound_waits()
+    ensures line { LinesWaitUpTo }
+    ensures script { ScriptsWaitUpTo }
+{
+    ram_waits();
+    attempts_of_running_calls();
+    attempts_are_at_slices();
+    greatest_slices_bound_waits();
+    running_calls_leave_setting();
+    services_leave_setting();
 }
 
 /// On sound memory a script comes to the same where no test touches a word of the application, but that each sequence that
@@ -47,6 +62,7 @@ pub fn memory_is_plain()
     ram_leaves_no_trace();
     services_leave_setting();
     running_calls_leave_setting();
+    running_calls_test_their_set();
     lines_keep_the_board();
     attempts_on_sound_memory();
 }

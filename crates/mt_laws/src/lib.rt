@@ -9,5 +9,5 @@ mod laws;
 
 pub use laws::{
     memory_is_plain, no_false_alarm_of_fls, no_false_alarm_of_ram, ok_is_evidence,
-    passes_find_faults, requests_are_served_in_time, tests_leave_no_trace,
+    passes_find_faults, requests_are_served_in_time, slices_bound_waits, tests_leave_no_trace,
 };

@@ -1,6 +1,7 @@
 pub mod Moves
 pub mod Sets
 pub mod Settings
+pub mod AtSlices
 pub mod Walks
 pub mod Drops
 pub mod Marks

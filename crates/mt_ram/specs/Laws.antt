@@ -1,14 +1,16 @@
 -- What running events and boundaries are known by.
-use Rattle.std.specs.Prelude.{ℕ, ◌≡◌, ◌<◌, Bool, true, false, None}
-use Rattle.mt_plan.specs.Plan.{IsAccepted}
+use Rattle.std.specs.Prelude.{ℕ, ◌≡◌, ◌<◌, Bool, true, false, All, Contains, None}
+use Rattle.mt_plan.specs.Plan.{IsAccepted, hold_of}
 use Rattle.mt_port.specs.Board.{Board}
 use Rattle.mt_window.specs.Serving.{Scene, serve_due, serve_left}
-use Rattle.mt_window.specs.Slices.{slices, unstopped}
+use Rattle.mt_window.specs.Slices.{Attempt, slices, unstopped}
 use Rattle.mt_window.specs.Rows.{work_in}
-use Rattle.mt_window.specs.Events.{Running as Events, entered, ran, event}
+use Rattle.mt_window.specs.Events.{Running as Events, entered, ran, event, event_attempts}
 use Rattle.mt_window.specs.Waits.{ServesInTime, KeepsBoard, MakesShortAttempts}
 use Rattle.mt_seq.specs.declared.sequence.Verdict.{Verdict}
-use Rattle.mt_blocks.specs.Slices.{Piece}
+use Rattle.mt_blocks.specs.declared.config.ParamSet.{ParamSet}
+use Rattle.mt_blocks.specs.Slices.{Piece, pass}
+use Rattle.mt_blocks.specs.Accepted.{block_at, spans_of}
 use Rattle.mt_ram.specs.State.{RamTst, IsRam, set_of, IsRunning, IsInside}
 use Rattle.mt_ram.specs.Table.{Service, MainFunction, row, after, ram_table}
 use Rattle.mt_ram.specs.Event.{attempt_at, of_pass, ticking, partial_test}
@@ -20,6 +22,31 @@ PartialTestsServeInTime = (block : ℕ) → ServesInTime (partial_test block)
 -- the attempts of each partial test
 abbrev pub PartialTestsMakeShortAttempts : Type 0
 PartialTestsMakeShortAttempts = (block : ℕ) → MakesShortAttempts (partial_test block)
+
+-- a slice of a pass over a set
+abbrev pub IsSliceOf : ParamSet → Piece → Type 0
+IsSliceOf set p = Contains (pass set.atomic (spans_of set.blocks)) p
+
+-- what a running call tests are slices of a pass over the selected set, which stays selected
+pub record TestsItsSet (call : Events RamTst Piece Verdict) : Type 0 where
+  pub work : (r : RamTst) → All (IsSliceOf (set_of r)) (call.work r)
+  pub inside : (r : RamTst) → set_of (call.inside r) ≡ set_of r
+
+abbrev pub PartialTestsTestTheirSet : Type 0
+PartialTestsTestTheirSet = (block : ℕ) → TestsItsSet (partial_test block)
+
+-- An attempt at such a slice: the whole sequence has the accesses of the set's algorithm on the words of the slice, and of its block's policy.
+pub record IsAtSlice (set : ParamSet) (a : Attempt) : Type 0 where
+  pub slice : Piece
+  pub inside : IsSliceOf set slice
+  pub whole : a.whole ≡ hold_of set.alg (block_at set.blocks slice.place.block).policy slice.slice.n
+
+-- the attempts of a running call are at slices of the set that is selected when it begins
+abbrev pub TriesSlices : Events RamTst Piece Verdict → Type 0
+TriesSlices call = (s : Scene RamTst) → All (IsAtSlice (set_of s.callee)) (event_attempts call s)
+
+abbrev pub PartialTestsTrySlices : Type 0
+PartialTestsTrySlices = (block : ℕ) → TriesSlices (partial_test block)
 
 -- what each partial test leaves of the board
 abbrev pub PartialTestsKeepTheBoard : Type 0

@@ -3,7 +3,7 @@
 ghost use Rattle.mt_ram.specs.Event.{ticking, full_test};
 ghost use Rattle.mt_window.specs.Waits.{ServesInTime, KeepsBoard, MakesShortAttempts};
 ghost use Rattle.mt_ram.specs.Plain.{LeavesNoTrace, PartialTestsLeaveNoTrace};
-ghost use Rattle.mt_ram.specs.Laws.{PartialTestsServeInTime, PartialTestsMakeShortAttempts, PartialTestsKeepTheBoard, DroppedAttemptsLeaveWords, TicksRest, TicksTest, TicksEndTheirGroup, BoundariesMove, RequestsLeftMove, ServicesLeaveSetting, LeavesSetting, PartialTestsLeaveSetting};
+ghost use Rattle.mt_ram.specs.Laws.{PartialTestsServeInTime, PartialTestsMakeShortAttempts, TestsItsSet, PartialTestsTestTheirSet, TriesSlices, PartialTestsTrySlices, PartialTestsKeepTheBoard, DroppedAttemptsLeaveWords, TicksRest, TicksTest, TicksEndTheirGroup, BoundariesMove, RequestsLeftMove, ServicesLeaveSetting, LeavesSetting, PartialTestsLeaveSetting};
 ghost use Rattle.mt_ram.specs.Tested.{ResultsAreOfTests, FailuresAreKept, OtherBlocksStay, OverallIsOfAll, ResultsAreReset, InitForgets, MarksAreOfCalls};
 ghost use Rattle.mt_ram.specs.Inner.Sets.{SetsAreCut, SlicesAreSound};
 
@@ -38,6 +38,21 @@ pub fn attempts_of_running_calls()
     attempts_are_within::<Ram, PassWalk>();
     attempts_are_within::<Ram, TestWalk>();
 }
+
+/// A running call tests slices of a pass over the selected set, and the set stays selected.
+pub fn running_calls_test_their_set()
+    ensures tick { TestsItsSet ticking }
+    ensures full { TestsItsSet full_test }
+    ensures partial { PartialTestsTestTheirSet }
+{}
+
+/// The attempts of a running call are at slices of a pass over the selected set. The whole sequence of each has the accesses of the
+/// set's algorithm on the words of the slice, and of its block's policy.
+pub fn attempts_are_at_slices()
+    ensures tick { TriesSlices ticking }
+    ensures full { TriesSlices full_test }
+    ensures partial { PartialTestsTrySlices }
+{}
 
 /// Running calls leave the board's shape, fault, flash words and defect, and whether interrupts are held.
 pub fn running_calls_keep_the_board()

@@ -12,10 +12,11 @@ mod state;
 mod test_walk;
 
 pub use laws::{
-    accepted_sets_are_sound, attempts_of_running_calls, dropped_attempts_leave_words,
-    handlers_leave_results, marks_are_of_calls, results_are_of_tests, results_are_reset,
-    running_calls_keep_the_board, running_calls_leave_setting, services_leave_setting,
-    tests_leave_no_trace, ticks_end_by_the_mark, waits_of_running_calls,
+    accepted_sets_are_sound, attempts_are_at_slices, attempts_of_running_calls,
+    dropped_attempts_leave_words, handlers_leave_results, marks_are_of_calls, results_are_of_tests,
+    results_are_reset, running_calls_keep_the_board, running_calls_leave_setting,
+    running_calls_test_their_set, services_leave_setting, tests_leave_no_trace,
+    ticks_end_by_the_mark, waits_of_running_calls,
 };
 pub use state::{Ram, State};
 
