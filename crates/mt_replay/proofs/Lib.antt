@@ -22,4 +22,5 @@ pub mod Comparisons
 pub mod Traces
 pub mod Replays
 pub mod Verifies
+pub mod OwnTraces
 pub mod Promises

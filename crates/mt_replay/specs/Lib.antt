@@ -12,4 +12,5 @@ pub mod Ticks
 pub mod Promises
 pub mod Replay
 pub mod Fixed
+pub mod OwnTraces
 pub mod Inner

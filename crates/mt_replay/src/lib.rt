@@ -20,6 +20,9 @@ mod top;
 mod verify;
 mod verifying;
 
-pub use laws::{formatting_keeps_outcomes, migrating_keeps_outcomes, traces_are_of_steps};
+pub use laws::{
+    formatting_keeps_outcomes, migrating_keeps_outcomes, own_traces_are_the_same,
+    traces_are_of_steps,
+};
 pub use status::{Status, exit_number};
 pub use top::replay;
