@@ -1,29 +1,20 @@
 //! Why an input is refused, in words.
 #![tactic(auto)]
 
-mod block_finding;
-mod config_note;
 mod explanation;
 mod file;
-mod find;
-mod finding;
+mod head_note;
 mod input;
 mod laws;
 mod lines;
 mod location_note;
-mod march_note;
-mod nearest;
-mod note;
 mod notes;
-mod path;
 mod report_text;
 mod row;
 mod script_note;
-mod shape_finding;
 mod table;
 mod tokens;
 mod trace_note;
-mod value_finding;
 mod vocabulary;
 
 pub use explanation::{Explanation, Place, explain};

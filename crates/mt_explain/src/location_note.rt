@@ -1,10 +1,10 @@
 //! Notes on the lines of a fault location.
 
-use crate::note::{Note, shown};
 use crate::script_note::Refused;
 use crate::tokens::{Tokens, tokens_to};
 use mt_blocks::ParamSet;
 use mt_conf::Config;
+use mt_place::{Note, shown};
 use mt_text::number_of;
 use mt_word::bits;
 use std::alloc::{AllocError, Global};

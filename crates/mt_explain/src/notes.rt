@@ -1,13 +1,13 @@
 //! The note on an input, by its status.
 
-use crate::config_note::config_note;
 use crate::file::{File, script_line};
+use crate::head_note::{no_separator, too_long};
 use crate::input::Input;
 use crate::location_note::{Located, location_note};
-use crate::note::Note;
 use crate::script_note::{Refused, limit_note, script_note};
 use crate::trace_note::trace_note;
 use mt_conf::{Config, read_config};
+use mt_place::{Note, config_note};
 use mt_replay::Status;
 use std::alloc::{AllocError, Global};
 
@@ -69,12 +69,11 @@ pub fn note_of(
     status: &Status,
 ) -> Result<Note, AllocError> {
     match status {
-        Status::BadConfig { code } => config_note(
-            alloc,
-            *code,
-            file.head_bytes(),
-            file.head_lines(),
-        ),
+        Status::BadConfig { code } => match *code {
+            18 => too_long(alloc, file.head_bytes()),
+            19 => no_separator(alloc, file.head_lines()),
+            code => config_note(alloc, code, file.head_bytes(), file.head_lines()),
+        },
         Status::BadScript { line, code, place } => {
             line_note(alloc, input, file, *code, *line as usize, *place)
         }

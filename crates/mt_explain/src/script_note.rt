@@ -1,8 +1,8 @@
 //! Notes on script lines.
 
-use crate::note::{Note, shown};
 use crate::tokens::{Tokens, tokens_to};
 use crate::vocabulary::Gap;
+use mt_place::{Note, shown};
 use mt_port::Shape;
 use mt_text::number_of;
 use mt_word::bits;

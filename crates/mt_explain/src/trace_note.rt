@@ -6,8 +6,8 @@ ghost use Rattle.mt_port.specs.Causes.{HasCause};
 ghost use Rattle.mt_port.specs.Streams.{TakesSome};
 
 use crate::file::File;
-use crate::note::{Mark, Note, shown};
 use mt_board::SimBoard;
+use mt_place::{Mark, Note, shown};
 use mt_port::{Failed, PlainSource, Sink};
 use mt_replay::replay;
 use std::alloc::{AllocError, Global};

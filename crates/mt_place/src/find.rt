@@ -1,6 +1,10 @@
 //! Where a key stands in the text of a configuration.
 
-use crate::note::Mark;
+ghost use Rattle.std.specs.Prelude.{◌≡◌, ◌<◌, ◌+◌, ◌^◌, length, map, IfSome};
+ghost use Rattle.mt_place.specs.Keys.{IsSpotOf, IsSpotOn};
+
+use crate::entry::{Piece, entry_of, has_key, header_piece};
+use crate::mark::{Mark, Spot};
 use crate::path::Path;
 
 /// The tables that headers have begun so far.
@@ -76,13 +80,6 @@ impl Walk {
     }
 }
 
-/// A place in the text, and how many bytes are marked.
-#[derive(Clone, Copy, Debug, PartialEq, Eq)]
-pub struct Spot {
-    pub mark: Mark,
-    pub length: usize,
-}
-
 /// What is looked for: the header of a table; or a key of it, or the value there.
 #[derive(Clone, Copy)]
 pub enum Target<'k> {
@@ -91,103 +88,42 @@ pub enum Target<'k> {
     Value(&'k str),
 }
 
-// What stands before a comment, if no text is before it.
-fn before_comment(line: &[u8]) -> &[u8] {
-    match line.iter().position(|byte| *byte == b'#') {
-        Some(index) => line[..index].trim_ascii_end(),
-        None => line.trim_ascii_end(),
-    }
-}
-
-// A part of a line: where it begins, and its bytes.
-#[derive(Clone, Copy)]
-struct Piece<'a> {
-    column: usize,
-    bytes: &'a [u8],
-}
-
-// The key and the value of a line, if it has them.
-#[derive(Clone, Copy)]
-struct Entry<'a> {
-    key: Piece<'a>,
-    value: Piece<'a>,
-}
-
-// The part of a line that ends it, without white space and, unless it is a text, without a comment.
-fn value_piece(line: &[u8], from: usize) -> Piece<'_> {
-    let rest = line[from.min(line.len())..].trim_ascii_start();
-    let column = line.len().saturating_sub(rest.len()).saturating_add(1);
-    let bytes = match rest {
-        [b'"', inner @ ..] => match inner.iter().position(|byte| *byte == b'"') {
-            Some(index) => &rest[..index.saturating_add(2).min(rest.len())],
-            None => rest,
-        },
-        _ => before_comment(rest),
-    };
-    Piece { column, bytes }
-}
-
-fn key_piece(front: &[u8]) -> Piece<'_> {
-    let rest = front.trim_ascii_start();
-    Piece {
-        column: front.len().saturating_sub(rest.len()).saturating_add(1),
-        bytes: rest.trim_ascii_end(),
-    }
-}
-
-fn entry_of(line: &[u8]) -> Option<Entry<'_>> {
-    let equals = line.iter().position(|byte| *byte == b'=')?;
-    Some(Entry {
-        key: key_piece(&line[..equals]),
-        value: value_piece(line, equals.saturating_add(1)),
-    })
-}
-
-// The key without quotes.
-fn name_of<'a>(key: Piece<'a>) -> &'a [u8] {
-    match key.bytes {
-        [b'"', name @ .., b'"'] => name,
-        name => name,
-    }
-}
-
-fn spot_of(line: usize, piece: Piece<'_>) -> Spot {
+fn spot_of(line: usize, piece: Piece<'_>) -> Spot
+    ensures line { result.mark.line ≡ line }
+    ensures column { result.mark.column ≡ piece.entry.column }
+    ensures length { result.length ≡ length piece.entry.bytes.now }
+{
     Spot {
         mark: Mark {
             line,
             column: piece.column,
         },
-        length: piece.bytes.len().max(1),
+        length: piece.bytes.len(),
     }
 }
 
 // What is looked for on a line of the table, if it is there.
-fn spot_on(number: usize, line: &[u8], target: Target<'_>) -> Option<Spot> {
+fn spot_on(number: usize, line: &[u8], target: Target<'_>) -> Option<Spot>
+    ensures spot { IfSome result (IsSpotOn target.entry number line.now) }
+    ensures fits { IfSome result (λ spot. spot.mark.column + spot.length < 2 ^ 64) }
+{
     let entry = entry_of(line)?;
-    let name = name_of(entry.key);
     match target {
-        Target::Key(key) if name == key.as_bytes() => Some(spot_of(number, entry.key)),
-        Target::Value(key) if name == key.as_bytes() => Some(spot_of(number, entry.value)),
+        Target::Key(key) if has_key(entry, key) => Some(spot_of(number, entry.key)),
+        Target::Value(key) if has_key(entry, key) => Some(spot_of(number, entry.value)),
         _ => None,
     }
 }
 
-// The number of the next line, counted from 1.
-fn number_of_line(index: usize) -> usize {
-    index.saturating_add(1)
-}
-
-// What a header line is, without white space and a comment.
-fn header_piece(line: &[u8]) -> Piece<'_> {
-    key_piece(before_comment(line))
-}
-
 /// Where a key or the header of a table stands, as far as lines show it: tables have headers of their own, and keys
 /// stand on lines of their own.
-pub fn find_spot(file: &[&[u8]], path: Path, target: Target<'_>) -> Option<Spot> {
+pub fn find_spot(file: &[&[u8]], path: Path, target: Target<'_>) -> Option<Spot>
+    ensures spot { IfSome result (IsSpotOf (map (λ line. line.now) file.now) target.entry) }
+    ensures fits { IfSome result (λ spot. spot.mark.column + spot.length < 2 ^ 64) }
+{
     let mut walk = Walk::new();
     for (index, line) in file.iter().enumerate() {
-        let number = number_of_line(index);
+        let number = index + 1;
         let header = header_piece(line);
         if header.bytes.starts_with(b"[") {
             walk = walk.after(header.bytes);

@@ -1,0 +1,5 @@
+pub mod Keys
+pub mod Marches
+pub mod Names
+pub mod Parts
+pub mod Places
