@@ -19,7 +19,7 @@ mod vocabulary;
 
 pub use explanation::{Explanation, Place, explain};
 pub use input::{Input, status_of};
-pub use laws::scripts_follow_heads;
+pub use laws::{heads_are_configurations, scripts_follow_heads};
 pub use report_text::{report, rule_name};
 pub use row::{Book, Row, Rule, row_of, rule_of};
 pub use table::rows;

@@ -28,53 +28,37 @@ impl Walk {
         }
     }
 
-    fn set(self) -> Walk {
-        Walk {
-            path: Some(Path::Set(self.sets)),
-            sets: self.sets.saturating_add(1),
-            blocks: 0,
-            ..self
-        }
-    }
-
-    fn block(self) -> Walk {
-        Walk {
-            path: Some(Path::Block {
-                set: self.sets.saturating_sub(1),
-                block: self.blocks,
-            }),
-            blocks: self.blocks.saturating_add(1),
-            ..self
-        }
-    }
-
-    fn bgnd(self) -> Walk {
-        Walk {
-            path: Some(Path::Bgnd(self.bgnd)),
-            bgnd: self.bgnd.saturating_add(1),
-            ..self
-        }
-    }
-
-    fn fgnd(self) -> Walk {
-        Walk {
-            path: Some(Path::Fgnd(self.fgnd)),
-            fgnd: self.fgnd.saturating_add(1),
-            ..self
-        }
-    }
-
     /// What a header begins.
     fn after(self, header: &[u8]) -> Walk {
         match header {
-            b"[[set]]" => self.set(),
-            b"[[set.block]]" => self.block(),
+            b"[[set]]" => Walk {
+                path: Some(Path::Set(self.sets)),
+                sets: self.sets.saturating_add(1),
+                blocks: 0,
+                ..self
+            },
+            b"[[set.block]]" => Walk {
+                path: Some(Path::Block {
+                    set: self.sets.saturating_sub(1),
+                    block: self.blocks,
+                }),
+                blocks: self.blocks.saturating_add(1),
+                ..self
+            },
             b"[fls]" => Walk {
                 path: Some(Path::Fls),
                 ..self
             },
-            b"[[fls.bgnd]]" => self.bgnd(),
-            b"[[fls.fgnd]]" => self.fgnd(),
+            b"[[fls.bgnd]]" => Walk {
+                path: Some(Path::Bgnd(self.bgnd)),
+                bgnd: self.bgnd.saturating_add(1),
+                ..self
+            },
+            b"[[fls.fgnd]]" => Walk {
+                path: Some(Path::Fgnd(self.fgnd)),
+                fgnd: self.fgnd.saturating_add(1),
+                ..self
+            },
             _ => Walk { path: None, ..self },
         }
     }
