@@ -1,15 +1,18 @@
 -- What a spot marks on its line.
-use Rattle.std.proofs.Common.{ℕ, ◌+◌, ◌-◌, ◌<◌, ◌≡◌, true, List, [], ◌∷◌, length, take, drop, get_or, nat_eq, Bor, sym, ap, ap₂, ◌∙◌, subst, arith}
+use Rattle.std.proofs.Common.{ℕ, ◌+◌, ◌-◌, ◌<◌, ◌≡◌, true, List, [], ◌∷◌, length, take, drop, get_or, nat_eq, Option, Some, None, Result, Ok, Err, IfSome, IfOk, Bor, sym, ap, ap₂, ◌∙◌, subst, arith}
 use Rattle.std.specs.List.{starts_with}
 use Rattle.std.proofs.lemmas.List.{get_or-take, length-map}
 use Rattle.std.proofs.lemmas.Slice.Eq.{bytes_eq-Decides}
+use Rattle.mt_place.specs.declared.mark.Mark.{Mark}
 use Rattle.mt_place.specs.declared.mark.Spot.{Spot}
+use Rattle.mt_place.specs.declared.note.Note.{Note}
 use Rattle.mt_place.specs.declared.entry.Piece.{Piece}
 use Rattle.mt_place.specs.declared.entry.Entry.{Entry}
 use Rattle.mt_place.specs.declared.find.Target.{Target}
 use Rattle.mt_place.specs.declared.find.Target.TheVariants.{Header, Key, Value}
 use Rattle.mt_place.specs.Places.{line_at}
-use Rattle.mt_place.specs.Keys.{IsBlank, IsSpelled, LeadsTo, LiesOn, marked, Shows, IsSpotOn, IsSpotOf}
+use Rattle.mt_place.specs.Keys.{IsBlank, IsSpelled, LeadsTo, LiesOn, marked, Shows, IsSpotOn, IsSpotOf, MarksSome}
+use Rattle.mt_place.specs.Subjects.{IsAt, MarksAt}
 use Rattle.mt_place.specs.Parts.{IsPart, IsEntry}
 use Rattle.mt_place.proofs.LineLemmas.{texts, line_here}
 
@@ -63,3 +66,27 @@ spot_of_file file i d target spot inside is =
       subst (λ (l : List ℕ). LiesOn l spot) (sym here) is.1,
       subst (λ (l : List ℕ). Shows target l spot) (sym here) is.2,
     )
+
+by_mark : (keys : List (List ℕ)) (file : List (List ℕ)) (target : Target) (mark : Option Mark) (count : ℕ) → IsAt keys target
+    → IfSome mark (λ mark. IsSpotOf file target (record { mark = mark; length = count }))
+    → IfSome mark (λ mark. (target : Target) × IsAt keys target × IsSpotOf file target (record { mark = mark; length = count }))
+by_mark keys file target None count is spot = spot
+by_mark keys file target (Some mark) count is spot = (target, is, spot)
+
+-- a note at a target of a rule marks one of the rule's keys
+pub marks_at : {E : Type 0} (keys : List (List ℕ)) (file : List (List ℕ)) (target : Target) (read : Result Note E) → IsAt keys target
+    → IfOk read (λ note. IfSome note.mark (λ mark. IsSpotOf file target (record { mark = mark; length = note.length })))
+    → IfOk read (MarksAt keys file)
+marks_at keys file target (Ok note) is spot = by_mark keys file target note.mark note.length is spot
+marks_at keys file target (Err e) is spot = spot
+
+by_some : (file : List (List ℕ)) (target : Target) (mark : Option Mark) (count : ℕ) → IfSome mark (λ mark. IsSpotOf file target (record { mark = mark; length = count }))
+    → IfSome mark (λ mark. (target : Target) × IsSpotOf file target (record { mark = mark; length = count }))
+by_some file target None count spot = spot
+by_some file target (Some mark) count spot = (target, spot)
+
+pub marks_some : {E : Type 0} (file : List (List ℕ)) (target : Target) (read : Result Note E)
+    → IfOk read (λ note. IfSome note.mark (λ mark. IsSpotOf file target (record { mark = mark; length = note.length })))
+    → IfOk read (MarksSome file)
+marks_some file target (Ok note) spot = by_some file target note.mark note.length spot
+marks_some file target (Err e) spot = spot

@@ -1,8 +1,9 @@
 -- What a line of a configuration shows: the header of a table, or a key and its value.
-use Rattle.std.specs.Prelude.{ℕ, ◌≡◌, ◌≤◌, ◌<◌, ◌+◌, ◌-◌, ◌⊎◌, true, List, [], ◌∷◌, ◌++◌, length, take, drop, slice_index}
+use Rattle.std.specs.Prelude.{ℕ, ◌≡◌, ◌≤◌, ◌<◌, ◌+◌, ◌-◌, ◌⊎◌, true, List, [], ◌∷◌, ◌++◌, length, take, drop, slice_index, IfSome}
 use Rattle.std.specs.Char.{is_ascii_whitespace}
 use Rattle.std.specs.Str.{IsTrimAscii}
 use Rattle.mt_place.specs.declared.mark.Spot.{Spot}
+use Rattle.mt_place.specs.declared.note.Note.{Note}
 use Rattle.mt_place.specs.declared.find.Target.{Target}
 use Rattle.mt_place.specs.declared.find.Target.TheVariants.{Header, Key, Value}
 use Rattle.mt_place.specs.Places.{line_at}
@@ -42,3 +43,7 @@ IsSpotOn target number line spot = (spot.mark.line ≡ number) × LiesOn line sp
 abbrev pub IsSpotOf : List (List ℕ) → Target → Spot → Type 0
 IsSpotOf file target spot =
     (1 ≤ spot.mark.line) × (spot.mark.line ≤ length file) × LiesOn (line_at file spot.mark.line) spot × Shows target (line_at file spot.mark.line) spot
+
+-- what a note marks, if it marks anything, is a header, a key or a value in the file
+abbrev pub MarksSome : List (List ℕ) → Note → Type 0
+MarksSome file note = IfSome note.mark (λ mark. (target : Target) × IsSpotOf file target (record { mark = mark; length = note.length }))

@@ -3,3 +3,4 @@ pub mod Marches
 pub mod Names
 pub mod Parts
 pub mod Places
+pub mod Subjects

@@ -77,7 +77,9 @@ pub fn out_of_range<'t>(
     placed: Placed<'t>,
     key: &'static str,
     range: (i64, i64),
-) -> Result<Option<Finding<'t>>, AllocError> {
+) -> Result<Option<Finding<'t>>, AllocError>
+    ensures { IfOk result (λ found. IfSome found (λ f. f.target ≡ Target.Value key.entry)) }
+{
     let value = number(placed.table, key);
     let (low, high) = range;
     if low <= value && value <= high {

@@ -5,6 +5,7 @@ mod block_finding;
 mod entry;
 mod find;
 mod finding;
+mod flash_finding;
 mod march_note;
 mod mark;
 mod nearest;

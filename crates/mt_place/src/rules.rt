@@ -1,12 +1,15 @@
 //! Notes on refused configurations.
 
-ghost use Rattle.std.specs.Prelude.{◌≡◌, ◌≤◌, None, Some, IfOk, IfSome, length, map};
+ghost use Rattle.std.specs.Prelude.{◌≡◌, ◌≢◌, ◌≤◌, None, Some, IfOk, IfSome, length, map};
 ghost use Rattle.mt_conf.specs.Outcome.{outcome};
 ghost use Rattle.mt_place.specs.Places.{IsIn};
+ghost use Rattle.mt_place.specs.Keys.{MarksSome};
+ghost use Rattle.mt_place.specs.Subjects.{IsAt, MarksAt, rule_keys};
 ghost use Rattle.mt_place.specs.Marches.{broken_march, march_rule};
 
-use crate::block_finding::{cells, copy, destructive, flash, overlap, range};
+use crate::block_finding::{cells, destructive, overlap, range};
 use crate::finding::{Finding, text};
+use crate::flash_finding::{copy, flash};
 use crate::march_note::{RefusedMarch, march_note};
 use crate::mark::mark_at;
 use crate::note::Note;
@@ -23,7 +26,9 @@ fn finding<'t>(
     code: u8,
     top: &'t Table,
     tables: &[Placed<'t>],
-) -> Result<Option<Finding<'t>>, AllocError> {
+) -> Result<Option<Finding<'t>>, AllocError>
+    ensures { 5 ≤ code → code ≢ 11 → IfOk result (λ found. IfSome found (λ f. IsAt (rule_keys code) f.target)) }
+{
     match code {
         2 => unknown_key(alloc, tables),
         3 => missing_key(alloc, tables),
@@ -140,8 +145,11 @@ fn no_document(alloc: Global, head: &[u8], file: &[&[u8]]) -> Result<Note, Alloc
 }
 
 // A note on a configuration that breaks a rule on its tables.
+#[tactic(auto, using(crate::proofs::SpotLemmas::marks_some, crate::proofs::SpotLemmas::marks_at))]
 fn table_note(alloc: Global, code: u8, head: &[u8], file: &[&[u8]]) -> Result<Note, AllocError>
     ensures march { IfOk result (λ note. note.march ≡ None) }
+    ensures spot { IfOk result (MarksSome (map (λ line. line.now) file.now)) }
+    ensures key { 5 ≤ code → code ≢ 11 → IfOk result (MarksAt (rule_keys code) (map (λ line. line.now) file.now)) }
     ensures mark { IfOk result (λ note. IfSome note.mark (IsIn (map (λ line. line.now) file.now))) }
 {
     let Some(top) = document(alloc, head) else {
@@ -159,7 +167,11 @@ pub fn config_note(alloc: Global, code: u8, head: &[u8], file: &[&[u8]]) -> Resu
     requires { length head.now ≤ 65536 }
     // A refused march has the number of its own rule too.
     ensures march { IfOk result (λ note. note.march ≡ march_rule code head.now) }
-    // What is marked is in the file.
+    // By a rule on tables a header, a key or a value is marked.
+    ensures spot { code ≢ 1 → code ≢ 11 → IfOk result (MarksSome (map (λ line. line.now) file.now)) }
+    // By a rule on values one of its keys, the value there or the header of a table is marked.
+    ensures key { 5 ≤ code → code ≢ 11 → IfOk result (MarksAt (rule_keys code) (map (λ line. line.now) file.now)) }
+    // Each place is in the file.
     ensures mark { IfOk result (λ note. IfSome note.mark (IsIn (map (λ line. line.now) file.now))) }
 {
     match code {
