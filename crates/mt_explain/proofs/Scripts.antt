@@ -5,7 +5,7 @@ use Rattle.mt_verify.specs.Lines.{lines}
 use Rattle.mt_replay.specs.Input.{Cut, cut, led, begun, Finished, Job, Parted, Whole, separator, preceded_by, parted, parted_at_end, job_of}
 use Rattle.mt_explain.specs.Lines.{is_separator, head_len, with_last, ScriptsFollowHeads}
 
-with_last-cons : (first : List ℕ) (whole : List (List ℕ)) (rest : List ℕ) → with_last (first ∷ whole) rest ≡ first ∷ with_last whole rest
+pub with_last-cons : (first : List ℕ) (whole : List (List ℕ)) (rest : List ℕ) → with_last (first ∷ whole) rest ≡ first ∷ with_last whole rest
 with_last-cons first whole [] = refl
 with_last-cons first whole (byte ∷ rest) = refl
 
@@ -21,7 +21,7 @@ by_feed : (byte : ℕ) (feed : Bool) (k : Cut) → cond feed ([] ∷ with_last k
 by_feed byte true k = sym (with_last-cons [] k.lines k.rest)
 by_feed byte false k = onto byte k.lines k.rest
 
-lines-cut : (bytes : List ℕ) → lines bytes ≡ with_last (cut bytes).lines (cut bytes).rest
+pub lines-cut : (bytes : List ℕ) → lines bytes ≡ with_last (cut bytes).lines (cut bytes).rest
 unfolding lines
 lines-cut [] = refl
 lines-cut (byte ∷ bytes) =

@@ -1,17 +1,19 @@
 //! The explanation of an input.
 
-ghost use Rattle.std.specs.Prelude.{◌≡◌, ◌≤◌, ◌+◌, length, IfOk, map};
+ghost use Rattle.std.specs.Prelude.{◌≡◌, ◌≤◌, ◌+◌, length, IfOk, IfSome, map, option_map, option_and_then};
 ghost use Rattle.mt_verify.specs.Lines.{lines};
 ghost use Rattle.mt_explain.specs.Inputs.{HasStatus};
-ghost use Rattle.mt_explain.specs.Explanations.{IsRowOf, IsPlaceOf};
+ghost use Rattle.mt_explain.specs.Rows.{rule_in, known};
+ghost use Rattle.mt_explain.specs.Notes.{IsMarkOf};
+ghost use Rattle.mt_explain.specs.Explanations.{IsRowOf, IsMarchOf, IsPlaceOf, FitsLine};
 ghost use Rattle.mt_explain.specs.Lines.{head_len};
 
 use crate::file::File;
 use crate::input::{Input, status_of};
 use crate::lines::{head_len, line_at, lines_of};
-use crate::note::Note;
 use crate::notes::note_of;
 use crate::row::{Book, Row, Rule, row_of, rule_of};
+use mt_place::Note;
 use mt_replay::Status;
 use mt_word::NoMemory;
 use std::alloc::{AllocError, Global};
@@ -49,7 +51,9 @@ fn row_by(status: &Status) -> Option<&'static Row>
 }
 
 // The row of a rule of marches.
-fn march_row(note: &Note) -> Option<&'static Row> {
+fn march_row(note: &Note) -> Option<&'static Row>
+    ensures { option_map (λ r. rule_in r.now) result ≡ option_and_then known (option_map (λ number. record { book = Book.March; number = number }) note.now.march) }
+{
     row_of(Rule {
         book: Book::March,
         number: note.march?,
@@ -60,6 +64,7 @@ fn march_row(note: &Note) -> Option<&'static Row> {
 fn place_of<'a>(file: &[&'a [u8]], head: usize, status: &Status, note: &Note) -> Option<Place<'a>>
     requires head { head ≡ head_len (map (λ line. line.now) file.now) }
     requires fits { head ≤ length file.now + 1 }
+    requires mark { IsMarkOf (map (λ line. line.now) file.now) status.now note.now.mark }
     ensures { IsPlaceOf (map (λ line. line.now) file.now) status.now result }
 {
     let (line, column) = match status {
@@ -76,6 +81,22 @@ fn place_of<'a>(file: &[&'a [u8]], head: usize, status: &Status, note: &Note) ->
     })
 }
 
+// How many bytes are marked of so many, which may reach beyond the line.
+fn length_on(place: &Option<Place<'_>>, length: usize) -> usize
+    ensures { IfSome place.now (FitsLine result) }
+{
+    match place {
+        Some(place) => {
+            let left = place
+                .text
+                .len()
+                .saturating_sub(place.column.saturating_sub(1));
+            length.min(left)
+        }
+        None => length,
+    }
+}
+
 // The explanation of an input that gives a status.
 fn explained<'a>(
     alloc: Global,
@@ -85,7 +106,9 @@ fn explained<'a>(
 ) -> Result<Explanation<'a>, AllocError>
     ensures status { IfOk result (λ e. e.status ≡ status) }
     ensures row { IfOk result (λ e. IsRowOf status e.row) }
+    ensures march { IfOk result (λ e. IsMarchOf bytes.now status e.march) }
     ensures place { IfOk result (λ e. IsPlaceOf (lines bytes.now) status e.place) }
+    ensures marks { IfOk result (λ e. IfSome e.place (FitsLine e.length)) }
 {
     let file = lines_of(alloc, bytes)?;
     let head = head_len(&file);
@@ -100,8 +123,8 @@ fn explained<'a>(
         status,
         row: row_by(&status),
         march: march_row(&note),
+        length: length_on(&place, note.length),
         place,
-        length: note.length,
         found: note.found,
         help: note.help,
     })
@@ -117,8 +140,12 @@ pub fn explain<'a>(
     ensures status { IfOk result (λ e. HasStatus input bytes.now e.status) }
     // The row is that of the rule by which it refuses them.
     ensures row { IfOk result (λ e. IsRowOf e.status e.row) }
-    // The place of a refused script line is its own; each place has the text of its line.
+    // A refused march has the row of its own rule too.
+    ensures march { IfOk result (λ e. IsMarchOf bytes.now e.status e.march) }
+    // The place of a refused script line is its own, and so is that of a trace that differs; each place has the text of its line.
     ensures place { IfOk result (λ e. IsPlaceOf (lines bytes.now) e.status e.place) }
+    // What is marked is on that line.
+    ensures marks { IfOk result (λ e. IfSome e.place (FitsLine e.length)) }
 {
     let status = status_of(alloc, input, bytes)?;
     match explained(alloc, input, bytes, status) {

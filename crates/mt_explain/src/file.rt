@@ -1,8 +1,11 @@
 //! A file, as its lines.
 
-ghost use Rattle.std.specs.Prelude.{◌≤◌, length};
+ghost use Rattle.std.specs.Prelude.{◌≡◌, ◌≤◌, ◌-◌, min, length, map, take, drop};
+ghost use Rattle.std.specs.List.{position_or_len};
+ghost use Rattle.mt_place.specs.Places.{byte_count};
+ghost use Rattle.mt_explain.specs.Lines.{is_separator};
 
-use crate::lines::{is_separator, line_at};
+use crate::lines::{len_to_separator, line_at};
 
 /// The most bytes of a configuration.
 const MOST_BYTES: usize = 65_536;
@@ -15,47 +18,61 @@ pub struct File<'a, 'l> {
     pub head: usize,
 }
 
-// How many bytes some lines have, with a line feed each.
-fn byte_count(lines: &[&[u8]]) -> usize {
-    let mut count = 0usize;
+// How many bytes some lines have, with a line feed each; no more than there are.
+fn byte_count(lines: &[&[u8]], most: usize) -> usize
+    ensures { result ≡ min most (byte_count (map (λ line. line.now) lines.now)) }
+{
+    let mut left = most;
     for line in lines {
-        count = count.saturating_add(line.len()).saturating_add(1);
+        left = left.saturating_sub(line.len() + 1);
     }
-    count
+    most - left
+}
+
+// The first bytes of a text, as many as may be.
+fn at_most(bytes: &[u8], most: usize) -> &[u8]
+    ensures value { result.now ≡ take most bytes.now }
+    ensures fits { length result.now ≤ most }
+{
+    &bytes[..bytes.len().min(most)]
 }
 
 impl<'a, 'l> File<'a, 'l> {
     /// The lines of the configuration, without its separator; all if there is none.
-    pub fn head_lines(&self) -> &'l [&'a [u8]] {
+    pub fn head_lines(&self) -> &'l [&'a [u8]]
+        ensures { result.now ≡ take (self.now.head - 1) self.now.lines.now }
+    {
         &self.lines[..self.lines.len().min(self.head.saturating_sub(1))]
     }
 
     /// The bytes of the configuration; all if there is no separator.
-    pub fn head_bytes(&self) -> &'a [u8] {
-        let count = byte_count(self.head_lines());
-        &self.bytes[..self.bytes.len().min(count)]
+    pub fn head_bytes(&self) -> &'a [u8]
+        ensures { result.now ≡ take (byte_count (map (λ line. line.now) (take (self.now.head - 1) self.now.lines.now))) self.now.bytes.now }
+    {
+        &self.bytes[..byte_count(self.head_lines(), self.bytes.len())]
     }
 
     /// The bytes of the configuration, as far as one may have them.
     pub fn config(&self) -> &'a [u8]
-        ensures { length result.now ≤ 65536 }
+        ensures value { result.now ≡ take 65536 (take (byte_count (map (λ line. line.now) (take (self.now.head - 1) self.now.lines.now))) self.now.bytes.now) }
+        ensures fits { length result.now ≤ 65536 }
     {
-        let head = self.head_bytes();
-        &head[..head.len().min(MOST_BYTES)]
+        at_most(self.head_bytes(), MOST_BYTES)
     }
 
     /// The lines after the configuration.
-    pub fn body(&self) -> &'l [&'a [u8]] {
+    pub fn body(&self) -> &'l [&'a [u8]]
+        ensures { result.now ≡ drop self.now.head self.now.lines.now }
+    {
         &self.lines[self.lines.len().min(self.head)..]
     }
 
     /// How many lines the script of a claim has, up to the second separator; all if there is none.
-    pub fn script_len(&self) -> usize {
-        let body = self.body();
-        match body.iter().position(|line| is_separator(line)) {
-            Some(index) => index,
-            None => body.len(),
-        }
+    pub fn script_len(&self) -> usize
+        ensures value { result ≡ position_or_len is_separator (drop self.now.head (map (λ line. line.now) self.now.lines.now)) }
+        ensures fits { result ≤ length self.now.lines.now }
+    {
+        len_to_separator(self.body())
     }
 
     /// The bytes of the configuration and of the script, with the first separator.
@@ -64,7 +81,7 @@ impl<'a, 'l> File<'a, 'l> {
             .lines
             .len()
             .min(self.head.saturating_add(self.script_len()));
-        &self.bytes[..self.bytes.len().min(byte_count(&self.lines[..count]))]
+        &self.bytes[..byte_count(&self.lines[..count], self.bytes.len())]
     }
 }
 

@@ -1,34 +1,25 @@
 //! Why an input is refused, in words.
 #![tactic(auto)]
 
-mod block_finding;
-mod config_note;
 mod explanation;
 mod file;
-mod find;
-mod finding;
+mod head_note;
 mod input;
 mod laws;
 mod lines;
 mod location_note;
-mod march_note;
-mod nearest;
-mod note;
 mod notes;
-mod path;
 mod report_text;
 mod row;
 mod script_note;
-mod shape_finding;
 mod table;
 mod tokens;
 mod trace_note;
-mod value_finding;
 mod vocabulary;
 
 pub use explanation::{Explanation, Place, explain};
 pub use input::{Input, status_of};
-pub use laws::scripts_follow_heads;
+pub use laws::{heads_are_configurations, scripts_follow_heads};
 pub use report_text::{report, rule_name};
 pub use row::{Book, Row, Rule, row_of, rule_of};
 pub use table::rows;

@@ -3,7 +3,8 @@
 ghost use Rattle.std.specs.Prelude.{◌≡◌, ◌<◌, ◌≤◌, ◌∷◌, ◌==◌, not, length, map, ◌+◌, IfOk};
 ghost use Rattle.std.specs.List.{prefix_len, position_or_len};
 ghost use Rattle.mt_verify.specs.Lines.{lines};
-ghost use Rattle.mt_explain.specs.Lines.{is_separator, head_len, line_at};
+ghost use Rattle.mt_place.specs.Places.{line_at};
+ghost use Rattle.mt_explain.specs.Lines.{is_separator, head_len};
 
 use std::alloc::{AllocError, Global};
 
@@ -53,8 +54,8 @@ pub fn is_separator(line: &[u8]) -> bool
     line == SEPARATOR
 }
 
-// How many lines come before the first separator.
-fn config_len(file: &[&[u8]]) -> usize
+/// How many lines come before the first separator.
+pub fn len_to_separator(file: &[&[u8]]) -> usize
     ensures value { result ≡ position_or_len (λ line. is_separator line.now) file.now }
     ensures fits { result ≤ length file.now }
 {
@@ -66,7 +67,7 @@ pub fn head_len(file: &[&[u8]]) -> usize
     ensures value { result ≡ head_len (map (λ line. line.now) file.now) }
     ensures fits { result ≤ length file.now + 1 }
 {
-    config_len(file) + 1
+    len_to_separator(file) + 1
 }
 
 /// The line with a number, counted from 1; nothing after the last one.

@@ -1,10 +1,13 @@
 //! Notes on the lines of a fault location.
 
-use crate::note::{Note, shown};
+ghost use Rattle.std.specs.Prelude.{IfOk};
+ghost use Rattle.mt_explain.specs.Notes.{IsPlain};
+
 use crate::script_note::Refused;
 use crate::tokens::{Tokens, tokens_to};
 use mt_blocks::ParamSet;
 use mt_conf::Config;
+use mt_place::{Note, shown};
 use mt_text::number_of;
 use mt_word::bits;
 use std::alloc::{AllocError, Global};
@@ -76,7 +79,9 @@ fn spelling(
     code: u8,
     located: Located<'_, '_>,
     tokens: &Tokens<'_>,
-) -> Result<Note, AllocError> {
+) -> Result<Note, AllocError>
+    ensures { IfOk result IsPlain }
+{
     let help = String::from_str(alloc, form(located.first))?;
     let Some(token) = tokens.here else {
         return Ok(Note::of(1, String::from_str(alloc, "the line ends here")?, help));
@@ -100,7 +105,9 @@ fn index_before(alloc: Global, before: &[u8]) -> Result<Option<u32>, AllocError>
 }
 
 // An index that is refused: it does not rise, or is that of no checked read.
-fn wrong_index(alloc: Global, token: &[u8], before: &[u8]) -> Result<Note, AllocError> {
+fn wrong_index(alloc: Global, token: &[u8], before: &[u8]) -> Result<Note, AllocError>
+    ensures { IfOk result IsPlain }
+{
     let word = shown(alloc, token)?;
     if let Some(last) = index_before(alloc, before)?
         && number_of(token).unwrap_or(0) <= last
@@ -118,7 +125,9 @@ fn wrong_index(alloc: Global, token: &[u8], before: &[u8]) -> Result<Note, Alloc
 }
 
 // A word that is refused: it is the one that was to be answered.
-fn right_word(alloc: Global, token: &[u8]) -> Result<Note, AllocError> {
+fn right_word(alloc: Global, token: &[u8]) -> Result<Note, AllocError>
+    ensures { IfOk result IsPlain }
+{
     let word = shown(alloc, token)?;
     let found = format!(in alloc; "{word} is what this read is to answer")?;
     let help = String::from_str(alloc, "write those reads alone that answered another word")?;
@@ -126,7 +135,9 @@ fn right_word(alloc: Global, token: &[u8]) -> Result<Note, AllocError> {
 }
 
 // A slice of too many bits.
-fn wide_slice(alloc: Global, token: &[u8], config: &Config) -> Result<Note, AllocError> {
+fn wide_slice(alloc: Global, token: &[u8], config: &Config) -> Result<Note, AllocError>
+    ensures { IfOk result IsPlain }
+{
     let width = bits(config.shape.width);
     let words = MOST_BITS / width.max(1);
     let found = format!(in alloc; "the slice has more than {words} words of {width} bits")?;
@@ -134,7 +145,9 @@ fn wide_slice(alloc: Global, token: &[u8], config: &Config) -> Result<Note, Allo
     Ok(Note::of(token.len(), found, help))
 }
 
-fn wide_word(alloc: Global, token: &[u8], config: &Config) -> Result<Note, AllocError> {
+fn wide_word(alloc: Global, token: &[u8], config: &Config) -> Result<Note, AllocError>
+    ensures { IfOk result IsPlain }
+{
     let width = bits(config.shape.width);
     let word = shown(alloc, token)?;
     let found = format!(in alloc; "{word} has more than {width} bits")?;
@@ -143,11 +156,9 @@ fn wide_word(alloc: Global, token: &[u8], config: &Config) -> Result<Note, Alloc
 }
 
 /// A note on a line of a location that is refused by one of the rules 1 to 9 or 12 to 15.
-pub fn location_note(
-    alloc: Global,
-    code: u8,
-    located: Located<'_, '_>,
-) -> Result<Note, AllocError> {
+pub fn location_note(alloc: Global, code: u8, located: Located<'_, '_>) -> Result<Note, AllocError>
+    ensures { IfOk result IsPlain }
+{
     let tokens = tokens_to(alloc, located.line.text, located.line.place)?;
     let token = tokens.here.unwrap_or(&[]);
     let config = located.config;

@@ -1,8 +1,11 @@
 //! Notes on script lines.
 
-use crate::note::{Note, shown};
+ghost use Rattle.std.specs.Prelude.{IfOk};
+ghost use Rattle.mt_explain.specs.Notes.{IsPlain};
+
 use crate::tokens::{Tokens, tokens_to};
 use crate::vocabulary::Gap;
+use mt_place::{Note, shown};
 use mt_port::Shape;
 use mt_text::number_of;
 use mt_word::bits;
@@ -59,7 +62,9 @@ fn habit(token: &[u8]) -> Option<Advice> {
 }
 
 // A note on a token that may not stand where it does, or on a line that ends too early.
-fn spelling(alloc: Global, gap: Gap<'_>, tokens: &Tokens<'_>) -> Result<Note, AllocError> {
+fn spelling(alloc: Global, gap: Gap<'_>, tokens: &Tokens<'_>) -> Result<Note, AllocError>
+    ensures { IfOk result IsPlain }
+{
     let Some(token) = tokens.here else {
         let found = String::from_str(alloc, "the line ends here")?;
         return Ok(Note::of(1, found, gap.help(alloc, &[])?));
@@ -98,7 +103,9 @@ fn bit_of(token: &[u8]) -> Option<u32> {
 }
 
 // Why a fault may not be there.
-fn misplaced(alloc: Global, token: &[u8], shape: Shape) -> Result<Note, AllocError> {
+fn misplaced(alloc: Global, token: &[u8], shape: Shape) -> Result<Note, AllocError>
+    ensures { IfOk result IsPlain }
+{
     let width = bits(shape.width);
     let word = shown(alloc, token)?;
     if bit_of(token).is_some_and(|bit| bit >= width) {
@@ -144,7 +151,9 @@ pub fn script_note(
     code: u8,
     shape: Shape,
     line: Refused<'_>,
-) -> Result<Note, AllocError> {
+) -> Result<Note, AllocError>
+    ensures { IfOk result IsPlain }
+{
     let tokens = tokens_to(alloc, line.text, line.place)?;
     let token = tokens.here.unwrap_or(&[]);
     if code == 9 {
@@ -164,7 +173,9 @@ pub fn script_note(
 }
 
 /// A note on a line, a script or a claim that is too long, or on a claim without a trace: the rules 10, 11, 16 and 17.
-pub fn limit_note(alloc: Global, code: u8, line: Refused<'_>) -> Result<Note, AllocError> {
+pub fn limit_note(alloc: Global, code: u8, line: Refused<'_>) -> Result<Note, AllocError>
+    ensures { IfOk result IsPlain }
+{
     let count = line.text.len();
     let (found, help) = match code {
         10 => (

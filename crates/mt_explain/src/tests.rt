@@ -1,6 +1,5 @@
 // Explanations that were worked out by hand.
 
-use crate::nearest::suggestion;
 use crate::{Book, Input, Rule, explain, report, row_of};
 use mt_replay::Status;
 use std::test::Fail;
@@ -34,17 +33,6 @@ fn an_accepted_job(rt: HostRuntime) -> Result<(), Fail> {
     assert_eq!(rt; explanation.status, Status::Done);
     let text = report(alloc, "a.job", &explanation)?;
     assert_eq!(rt; text.as_str(), "a.job is not refused\n");
-    Ok(())
-}
-
-#[test]
-fn near_names(rt: HostRuntime) -> Result<(), Fail> {
-    let alloc = rt.alloc();
-    let names = ["Init", "Stop"];
-    let near = suggestion(alloc, b"INIR", names.as_slice())?;
-    assert_eq!(rt; near.as_str(), "write `Init`");
-    let far = suggestion(alloc, b"Start", names.as_slice())?;
-    assert_eq!(rt; far.as_str(), "write one of `Init`, `Stop`");
     Ok(())
 }
 

@@ -1,13 +1,14 @@
 //! Notes on a trace that differs.
 
-ghost use Rattle.std.specs.Prelude.{◌≡◌, None, IsOkAnd, length};
+ghost use Rattle.std.specs.Prelude.{◌≡◌, ◌≤◌, ◌+◌, Some, None, IfOk, IsOkAnd, length, map};
 ghost use Rattle.std.specs.Io.KnownBytes.{WriteAppends};
 ghost use Rattle.mt_port.specs.Causes.{HasCause};
 ghost use Rattle.mt_port.specs.Streams.{TakesSome};
+ghost use Rattle.mt_explain.specs.Lines.{head_len, trace_start};
 
 use crate::file::File;
-use crate::note::{Mark, Note, shown};
 use mt_board::SimBoard;
+use mt_place::{Mark, Note, shown};
 use mt_port::{Failed, PlainSource, Sink};
 use mt_replay::replay;
 use std::alloc::{AllocError, Global};
@@ -86,13 +87,15 @@ fn is_returned(given: Option<&[u8]>, expected: &[u8]) -> bool {
 }
 
 /// A note on a line of the trace that is not the replay's.
-pub fn trace_note(alloc: Global, file: &File<'_, '_>, line: u32) -> Result<Note, AllocError> {
-    let before = file
-        .head
-        .saturating_add(file.script_len())
-        .saturating_add(1);
-    let number = before.saturating_add(line as usize);
-    let given = file.lines.get(number.saturating_sub(1)).copied();
+pub fn trace_note(alloc: Global, file: &File<'_, '_>, line: u32) -> Result<Note, AllocError>
+    requires head { file.now.head ≡ head_len (map (λ line. line.now) file.now.lines.now) }
+    requires fits { file.now.head ≤ length file.now.lines.now + 1 }
+    ensures march { IfOk result (λ note. note.march ≡ None) }
+    ensures mark { IfOk result (λ note. note.mark ≡ Some (record { line = trace_start (map (λ line. line.now) file.now.lines.now) + line; column = 1 })) }
+{
+    let File { lines, head, .. } = *file;
+    let number = head + file.script_len() + 1 + line as usize;
+    let given = lines.get(number - 1).copied();
     let expected = expected_line(alloc, file.job_bytes(), line)?;
     let found = match &expected {
         Some(text) if is_returned(given, text) => {
@@ -108,10 +111,14 @@ pub fn trace_note(alloc: Global, file: &File<'_, '_>, line: u32) -> Result<Note,
         None => format!(in alloc; "the trace of the replay has fewer than {line} lines")?,
     };
     let help = String::from_str(alloc, "run the job alone to see its whole trace")?;
-    let mut note = Note::of(given.map_or(1, |text| text.len()), found, help);
-    note.mark = Some(Mark {
-        line: number,
-        column: 1,
-    });
-    Ok(note)
+    Ok(Note {
+        mark: Some(Mark {
+            line: number,
+            column: 1,
+        }),
+        length: given.map_or(1, |text| text.len()),
+        march: None,
+        found,
+        help,
+    })
 }

@@ -1,8 +1,7 @@
 //! What may stand at a place of a script line: the reader is asked.
 
-use crate::nearest::suggestion;
-use crate::note::listed;
 use crate::tokens::MOST_BYTES;
+use mt_place::suggestion;
 use mt_port::Shape;
 use mt_text::{LineKind, read_line};
 use mt_word::bits;

@@ -5,4 +5,4 @@ use Rattle.mt_explain.proofs.lines.head_len.Goals as goal
 
 pub returns-clause-value : goal.returns-clause-value
 returns-clause-value c =
-    ap (λ (n : ℕ). n + 1) (c.config_len.ensures.value ∙ sym (prefix_len-map (λ line. line.now) (λ line. not (is_separator line)) c.args.file.now))
+    ap (λ (n : ℕ). n + 1) (c.len_to_separator.ensures.value ∙ sym (prefix_len-map (λ line. line.now) (λ line. not (is_separator line)) c.args.file.now))

@@ -1,5 +1,8 @@
 //! What breaks a rule of configurations: a table, a key of it, and what is wrong there.
 
+ghost use Rattle.std.specs.Prelude.{◌≡◌, None, IfOk, IfSome, map};
+ghost use Rattle.mt_place.specs.Keys.{IsSpotOf};
+
 use crate::find::{Target, find_spot};
 use crate::note::Note;
 use crate::path::{Path, Placed};
@@ -18,7 +21,10 @@ pub struct Finding<'t> {
 
 impl<'t> Finding<'t> {
     /// The note, with its place if the text shows it, and with the table's name.
-    pub fn note(self, alloc: Global, file: &[&[u8]]) -> Result<Note, AllocError> {
+    pub fn note(self, alloc: Global, file: &[&[u8]]) -> Result<Note, AllocError>
+        ensures march { IfOk result (λ note. note.march ≡ None) }
+        ensures spot { IfOk result (λ note. IfSome note.mark (λ mark. IsSpotOf (map (λ line. line.now) file.now) self.entry.target (record { mark = mark; length = note.length }))) }
+    {
         let Finding {
             path,
             place,
@@ -71,7 +77,9 @@ pub fn out_of_range<'t>(
     placed: Placed<'t>,
     key: &'static str,
     range: (i64, i64),
-) -> Result<Option<Finding<'t>>, AllocError> {
+) -> Result<Option<Finding<'t>>, AllocError>
+    ensures { IfOk result (λ found. IfSome found (λ f. f.target ≡ Target.Value key.entry)) }
+{
     let value = number(placed.table, key);
     let (low, high) = range;
     if low <= value && value <= high {

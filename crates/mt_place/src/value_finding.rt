@@ -1,5 +1,9 @@
 //! What breaks the rules on the values of the top table, of sets and of their blocks.
 
+ghost use Rattle.std.specs.Prelude.{◌≡◌, [], ◌∷◌, codes, IfOk, IfSome, true};
+ghost use Rattle.mt_conf.specs.Rules.{is_one_of};
+ghost use Rattle.mt_place.specs.Subjects.{IsAt, word_keys, name_keys, counted_keys};
+
 use crate::find::Target;
 use crate::finding::{Finding, number, out_of_range, text, top};
 use crate::nearest::suggestion;
@@ -22,7 +26,9 @@ fn at_top(
     key: &'static str,
     found: String,
     help: &str,
-) -> Result<Finding<'static>, AllocError> {
+) -> Result<Finding<'static>, AllocError>
+    ensures { IfOk result (λ f. f.target ≡ Target.Value key.entry) }
+{
     Ok(Finding {
         path: Path::Top,
         place: Path::Top,
@@ -33,7 +39,9 @@ fn at_top(
 }
 
 /// The version that there is not.
-pub fn version(alloc: Global, table: &Table) -> Result<Finding<'static>, AllocError> {
+pub fn version(alloc: Global, table: &Table) -> Result<Finding<'static>, AllocError>
+    ensures { IfOk result (λ f. IsAt (codes "version" ∷ []) f.target) }
+{
     let version = number(table, "version");
     let found = format!(in alloc; "version is {version}")?;
     at_top(
@@ -45,7 +53,9 @@ pub fn version(alloc: Global, table: &Table) -> Result<Finding<'static>, AllocEr
 }
 
 /// The width that there is not.
-pub fn width(alloc: Global, table: &Table) -> Result<Finding<'static>, AllocError> {
+pub fn width(alloc: Global, table: &Table) -> Result<Finding<'static>, AllocError>
+    ensures { IfOk result (λ f. IsAt (codes "width" ∷ []) f.target) }
+{
     let width = number(table, "width");
     let found = format!(in alloc; "width is {width}")?;
     let help = if width == 64 {
@@ -57,7 +67,9 @@ pub fn width(alloc: Global, table: &Table) -> Result<Finding<'static>, AllocErro
 }
 
 /// The number of words that is out of range.
-pub fn size<'t>(alloc: Global, placed: Placed<'t>) -> Result<Option<Finding<'t>>, AllocError> {
+pub fn size<'t>(alloc: Global, placed: Placed<'t>) -> Result<Option<Finding<'t>>, AllocError>
+    ensures { IfOk result (λ found. IfSome found (λ f. IsAt (codes "ram" ∷ codes "flash" ∷ []) f.target)) }
+{
     match out_of_range(alloc, placed, "ram", (1, 65_536))? {
         Some(finding) => Ok(Some(finding)),
         None => out_of_range(alloc, placed, "flash", (0, 65_536)),
@@ -65,7 +77,9 @@ pub fn size<'t>(alloc: Global, placed: Placed<'t>) -> Result<Option<Finding<'t>>
 }
 
 // The key of a table at which a word stands.
-fn word_key(path: Path) -> Option<&'static str> {
+fn word_key(path: Path) -> Option<&'static str>
+    ensures { IfSome result (λ key. is_one_of word_keys key.now ≡ true) }
+{
     match path {
         Path::Top => Some("initial"),
         Path::Set(_) => Some("background"),
@@ -97,7 +111,9 @@ fn wrong_word<'t>(
     placed: Placed<'t>,
     digits: usize,
     key: &'static str,
-) -> Result<Option<Finding<'t>>, AllocError> {
+) -> Result<Option<Finding<'t>>, AllocError>
+    ensures { is_one_of word_keys key.now ≡ true → IfOk result (λ found. IfSome found (λ f. IsAt word_keys f.target)) }
+{
     if !placed.table.contains_key(key) {
         return Ok(None);
     }
@@ -115,7 +131,9 @@ fn wrong_word<'t>(
 }
 
 /// The text that is no word of the width.
-pub fn word<'t>(alloc: Global, tables: &[Placed<'t>]) -> Result<Option<Finding<'t>>, AllocError> {
+pub fn word<'t>(alloc: Global, tables: &[Placed<'t>]) -> Result<Option<Finding<'t>>, AllocError>
+    ensures { IfOk result (λ found. IfSome found (λ f. IsAt word_keys f.target)) }
+{
     let digits = match top(tables) {
         Some(table) => number(table, "width") / 4,
         None => 2,
@@ -150,7 +168,9 @@ fn wrong_count<'t>(
     placed: Placed<'t>,
     key: &'static str,
     range: (usize, usize),
-) -> Result<Option<Finding<'t>>, AllocError> {
+) -> Result<Option<Finding<'t>>, AllocError>
+    ensures { is_one_of counted_keys key.now ≡ true → IfOk result (λ found. IfSome found (λ f. IsAt counted_keys f.target)) }
+{
     let count = items_at(placed.table, key).len();
     let (low, high) = range;
     if low <= count && count <= high {
@@ -171,7 +191,9 @@ fn wrong_count<'t>(
     }))
 }
 
-fn count_in<'t>(alloc: Global, placed: Placed<'t>) -> Result<Option<Finding<'t>>, AllocError> {
+fn count_in<'t>(alloc: Global, placed: Placed<'t>) -> Result<Option<Finding<'t>>, AllocError>
+    ensures { IfOk result (λ found. IfSome found (λ f. IsAt counted_keys f.target)) }
+{
     match placed.path {
         Path::Top => wrong_count(alloc, placed, "set", (1, 16)),
         Path::Set(_) => wrong_count(alloc, placed, "block", (1, 64)),
@@ -184,7 +206,9 @@ fn count_in<'t>(alloc: Global, placed: Placed<'t>) -> Result<Option<Finding<'t>>
 }
 
 /// The array with too few or too many tables.
-pub fn count<'t>(alloc: Global, tables: &[Placed<'t>]) -> Result<Option<Finding<'t>>, AllocError> {
+pub fn count<'t>(alloc: Global, tables: &[Placed<'t>]) -> Result<Option<Finding<'t>>, AllocError>
+    ensures { IfOk result (λ found. IfSome found (λ f. IsAt counted_keys f.target)) }
+{
     for placed in tables {
         if let Some(finding) = count_in(alloc, *placed)? {
             return Ok(Some(finding));
@@ -198,7 +222,9 @@ fn wrong_name<'t>(
     placed: Placed<'t>,
     key: &'static str,
     names: &[&str],
-) -> Result<Option<Finding<'t>>, AllocError> {
+) -> Result<Option<Finding<'t>>, AllocError>
+    ensures { IfOk result (λ found. IfSome found (λ f. f.target ≡ Target.Value key.entry)) }
+{
     let name = text(placed.table, key);
     if names.iter().any(|known| *known == name) {
         return Ok(None);
@@ -213,7 +239,9 @@ fn wrong_name<'t>(
 }
 
 // A march beside another algorithm.
-fn idle_march<'t>(alloc: Global, placed: Placed<'t>) -> Result<Option<Finding<'t>>, AllocError> {
+fn idle_march<'t>(alloc: Global, placed: Placed<'t>) -> Result<Option<Finding<'t>>, AllocError>
+    ensures { IfOk result (λ found. IfSome found (λ f. IsAt name_keys f.target)) }
+{
     let algorithm = text(placed.table, "algorithm");
     if algorithm == "march" || !placed.table.contains_key("march") {
         return Ok(None);
@@ -227,7 +255,9 @@ fn idle_march<'t>(alloc: Global, placed: Placed<'t>) -> Result<Option<Finding<'t
     }))
 }
 
-fn name_in<'t>(alloc: Global, placed: Placed<'t>) -> Result<Option<Finding<'t>>, AllocError> {
+fn name_in<'t>(alloc: Global, placed: Placed<'t>) -> Result<Option<Finding<'t>>, AllocError>
+    ensures { IfOk result (λ found. IfSome found (λ f. IsAt name_keys f.target)) }
+{
     match placed.path {
         Path::Set(_) => match wrong_name(alloc, placed, "algorithm", &ALGORITHMS)? {
             Some(finding) => Ok(Some(finding)),
@@ -239,7 +269,9 @@ fn name_in<'t>(alloc: Global, placed: Placed<'t>) -> Result<Option<Finding<'t>>,
 }
 
 /// The algorithm or the policy that there is not, or the march that no algorithm takes.
-pub fn name<'t>(alloc: Global, tables: &[Placed<'t>]) -> Result<Option<Finding<'t>>, AllocError> {
+pub fn name<'t>(alloc: Global, tables: &[Placed<'t>]) -> Result<Option<Finding<'t>>, AllocError>
+    ensures { IfOk result (λ found. IfSome found (λ f. IsAt name_keys f.target)) }
+{
     for placed in tables {
         if let Some(finding) = name_in(alloc, *placed)? {
             return Ok(Some(finding));

@@ -1,5 +1,8 @@
 //! What breaks the rules on blocks, slices and ticks.
 
+ghost use Rattle.std.specs.Prelude.{[], ◌∷◌, codes, IfOk, IfSome};
+ghost use Rattle.mt_place.specs.Subjects.{IsAt, cell_keys, flash_keys};
+
 use crate::find::Target;
 use crate::finding::{Finding, number, out_of_range, text, top};
 use crate::path::{Path, Placed};
@@ -26,7 +29,9 @@ fn is_transparent(tables: &[Placed<'_>], set: Option<usize>) -> bool {
 pub fn destructive<'t>(
     alloc: Global,
     tables: &[Placed<'t>],
-) -> Result<Option<Finding<'t>>, AllocError> {
+) -> Result<Option<Finding<'t>>, AllocError>
+    ensures { IfOk result (λ found. IfSome found (λ f. IsAt (codes "policy" ∷ []) f.target)) }
+{
     for placed in tables {
         if matches!(placed.path, Path::Block { .. })
             && text(placed.table, "policy") == "destructive"
@@ -48,12 +53,15 @@ pub fn destructive<'t>(
 }
 
 /// The first and the last address of a block that are not in order below a limit.
-fn wrong_span<'t>(
+pub fn wrong_span<'t>(
     alloc: Global,
     placed: Placed<'t>,
     size: &str,
     limit: i64,
-) -> Result<Option<Finding<'t>>, AllocError> {
+) -> Result<Option<Finding<'t>>, AllocError>
+    ensures block { IfOk result (λ found. IfSome found (λ f. IsAt (codes "first" ∷ codes "last" ∷ []) f.target)) }
+    ensures flash { IfOk result (λ found. IfSome found (λ f. IsAt flash_keys f.target)) }
+{
     let first = number(placed.table, "first");
     let last = number(placed.table, "last");
     let (key, found, help) = if first < 0 {
@@ -87,7 +95,9 @@ fn wrong_span<'t>(
 }
 
 /// The block that is not within the RAM.
-pub fn range<'t>(alloc: Global, tables: &[Placed<'t>]) -> Result<Option<Finding<'t>>, AllocError> {
+pub fn range<'t>(alloc: Global, tables: &[Placed<'t>]) -> Result<Option<Finding<'t>>, AllocError>
+    ensures { IfOk result (λ found. IfSome found (λ f. IsAt (codes "first" ∷ codes "last" ∷ []) f.target)) }
+{
     let limit = top(tables).map_or(0, |table| number(table, "ram"));
     for placed in tables {
         if matches!(placed.path, Path::Block { .. })
@@ -108,7 +118,9 @@ fn overlap_of<'t>(
     alloc: Global,
     placed: Placed<'t>,
     earlier: &[Placed<'t>],
-) -> Result<Option<Finding<'t>>, AllocError> {
+) -> Result<Option<Finding<'t>>, AllocError>
+    ensures { IfOk result (λ found. IfSome found (λ f. IsAt (codes "first" ∷ []) f.target)) }
+{
     for other in earlier {
         if matches!(other.path, Path::Block { .. })
             && set_of(other.path) == set_of(placed.path)
@@ -132,10 +144,9 @@ fn overlap_of<'t>(
 }
 
 /// The block that shares words with another one of its set.
-pub fn overlap<'t>(
-    alloc: Global,
-    tables: &[Placed<'t>],
-) -> Result<Option<Finding<'t>>, AllocError> {
+pub fn overlap<'t>(alloc: Global, tables: &[Placed<'t>]) -> Result<Option<Finding<'t>>, AllocError>
+    ensures { IfOk result (λ found. IfSome found (λ f. IsAt (codes "first" ∷ []) f.target)) }
+{
     for (index, placed) in tables.iter().enumerate() {
         if matches!(placed.path, Path::Block { .. })
             && let Some(finding) = overlap_of(alloc, *placed, &tables[..index])?
@@ -146,8 +157,11 @@ pub fn overlap<'t>(
     Ok(None)
 }
 
-// The slices and ticks of a set or of `fls`.
-fn wrong_cells<'t>(alloc: Global, placed: Placed<'t>) -> Result<Option<Finding<'t>>, AllocError> {
+/// The slices and ticks of a set or of `fls` that are out of range.
+pub fn wrong_cells<'t>(alloc: Global, placed: Placed<'t>) -> Result<Option<Finding<'t>>, AllocError>
+    ensures set { IfOk result (λ found. IfSome found (λ f. IsAt cell_keys f.target)) }
+    ensures flash { IfOk result (λ found. IfSome found (λ f. IsAt flash_keys f.target)) }
+{
     match out_of_range(alloc, placed, "atomic", (1, 64))? {
         Some(finding) => Ok(Some(finding)),
         None => out_of_range(
@@ -163,7 +177,9 @@ fn wrong_retries<'t>(
     alloc: Global,
     placed: Placed<'t>,
     version: i64,
-) -> Result<Option<Finding<'t>>, AllocError> {
+) -> Result<Option<Finding<'t>>, AllocError>
+    ensures { IfOk result (λ found. IfSome found (λ f. IsAt cell_keys f.target)) }
+{
     if !placed.table.contains_key("retries") {
         return Ok(None);
     }
@@ -180,7 +196,9 @@ fn wrong_retries<'t>(
 }
 
 /// The slices, ticks or retries of a set that are out of range.
-pub fn cells<'t>(alloc: Global, tables: &[Placed<'t>]) -> Result<Option<Finding<'t>>, AllocError> {
+pub fn cells<'t>(alloc: Global, tables: &[Placed<'t>]) -> Result<Option<Finding<'t>>, AllocError>
+    ensures { IfOk result (λ found. IfSome found (λ f. IsAt cell_keys f.target)) }
+{
     let version = top(tables).map_or(1, |table| number(table, "version"));
     for placed in tables {
         if matches!(placed.path, Path::Set(_)) {
@@ -190,90 +208,6 @@ pub fn cells<'t>(alloc: Global, tables: &[Placed<'t>]) -> Result<Option<Finding<
             if let Some(finding) = wrong_retries(alloc, *placed, version)? {
                 return Ok(Some(finding));
             }
-        }
-    }
-    Ok(None)
-}
-
-// The last address of the copy of a flash block.
-fn copy_last(block: &Table) -> i64 {
-    let length = number(block, "last").saturating_sub(number(block, "first"));
-    number(block, "copy").saturating_add(length)
-}
-
-// The copy that is not within the flash.
-fn wrong_copy<'t>(
-    alloc: Global,
-    placed: Placed<'t>,
-    flash: i64,
-) -> Result<Option<Finding<'t>>, AllocError> {
-    let (copy, last) = (number(placed.table, "copy"), copy_last(placed.table));
-    if 0 <= copy && last < flash {
-        return Ok(None);
-    }
-    Ok(Some(Finding {
-        path: placed.path,
-        place: placed.path,
-        target: Target::Value("copy"),
-        found: format!(in alloc; "the copy is {copy} to {last}, and flash is {flash}")?,
-        help: String::from_str(
-            alloc,
-            "write a copy that lies in the flash, or a larger flash",
-        )?,
-    }))
-}
-
-fn flash_in<'t>(
-    alloc: Global,
-    placed: Placed<'t>,
-    flash: i64,
-) -> Result<Option<Finding<'t>>, AllocError> {
-    match placed.path {
-        Path::Fls => match wrong_cells(alloc, placed)? {
-            Some(finding) => Ok(Some(finding)),
-            None => out_of_range(alloc, placed, "interval_end", (0, 65_535)),
-        },
-        Path::Bgnd(_) | Path::Fgnd(_) => match wrong_span(alloc, placed, "flash", flash)? {
-            Some(finding) => Ok(Some(finding)),
-            None => wrong_copy(alloc, placed, flash),
-        },
-        _ => Ok(None),
-    }
-}
-
-/// What of `fls` is out of range.
-pub fn flash<'t>(alloc: Global, tables: &[Placed<'t>]) -> Result<Option<Finding<'t>>, AllocError> {
-    let flash = top(tables).map_or(0, |table| number(table, "flash"));
-    for placed in tables {
-        if let Some(finding) = flash_in(alloc, *placed, flash)? {
-            return Ok(Some(finding));
-        }
-    }
-    Ok(None)
-}
-
-fn meets_copy(block: &Table) -> bool {
-    number(block, "first") <= copy_last(block) && number(block, "copy") <= number(block, "last")
-}
-
-/// The flash block that shares words with its copy.
-pub fn copy<'t>(alloc: Global, tables: &[Placed<'t>]) -> Result<Option<Finding<'t>>, AllocError> {
-    for placed in tables {
-        if matches!(placed.path, Path::Bgnd(_) | Path::Fgnd(_)) && meets_copy(placed.table) {
-            let (first, last) = (number(placed.table, "first"), number(placed.table, "last"));
-            let (copy, end) = (number(placed.table, "copy"), copy_last(placed.table));
-            return Ok(Some(Finding {
-                path: placed.path,
-                place: placed.path,
-                target: Target::Value("copy"),
-                found: format!(in alloc;
-                    "the block is {first} to {last}, and its copy {copy} to {end}"
-                )?,
-                help: String::from_str(
-                    alloc,
-                    "write a copy that lies wholly before or after its block",
-                )?,
-            }));
         }
     }
     Ok(None)

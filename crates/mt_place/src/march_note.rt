@@ -1,9 +1,12 @@
 //! Notes on refused marches.
 
-ghost use Rattle.std.specs.Prelude.{◌≤◌, length};
+ghost use Rattle.std.specs.Prelude.{◌≡◌, ◌≢◌, ◌↔◌, ◌≤◌, ◌<◌, ◌+◌, ◌-◌, ◌^◌, min, Some, IsTrue, IfOk, IfSome, length, map, take, drop};
+ghost use Rattle.mt_place.specs.Places.{IsIn};
+ghost use Rattle.mt_place.specs.Marches.{Reads};
 
 use crate::find::{Target, find_spot};
-use crate::note::{Mark, Note, shown};
+use crate::mark::{Mark, Spot};
+use crate::note::{Note, shown};
 use crate::path::Path;
 use std::alloc::{AllocError, Global};
 
@@ -19,17 +22,21 @@ pub struct RefusedMarch<'a> {
 impl<'a> RefusedMarch<'a> {
     // The index of the place in the text, or of its end.
     fn index(self) -> usize
-        ensures { result ≤ length self.entry.text.now }
+        ensures { result ≡ min (length self.entry.text.now) (self.entry.place - 1) }
     {
         self.text.len().min(self.place.saturating_sub(1))
     }
 
     // What stands before the place, and from it on.
-    fn front(self) -> &'a [u8] {
+    fn front(self) -> &'a [u8]
+        ensures { result.now ≡ take (self.entry.place - 1) self.entry.text.now }
+    {
         &self.text[..self.index()]
     }
 
-    fn rest(self) -> &'a [u8] {
+    fn rest(self) -> &'a [u8]
+        ensures { result.now ≡ drop (self.entry.place - 1) self.entry.text.now }
+    {
         &self.text[self.index()..]
     }
 
@@ -39,6 +46,25 @@ impl<'a> RefusedMarch<'a> {
             2
         } else {
             1
+        }
+    }
+
+    // The place in the value that spells the text, after the quote. With escapes, the value as a whole is marked.
+    fn spot_in(self, value: Spot) -> Spot
+        requires { value.mark.column + value.length < 2 ^ 64 }
+        ensures line { result.mark.line ≡ value.mark.line }
+        ensures within { value.mark.column ≤ result.mark.column }
+        ensures column { result.mark.column ≤ value.mark.column + value.length }
+    {
+        if value.length != self.text.len() + 2 {
+            return value;
+        }
+        Spot {
+            mark: Mark {
+                line: value.mark.line,
+                column: value.mark.column + self.index() + 1,
+            },
+            length: self.length(),
         }
     }
 }
@@ -56,12 +82,17 @@ fn last_digit(text: &[u8], letter: u8) -> char {
     digit
 }
 
-fn other_digit(digit: char) -> char {
+fn other_digit(digit: char) -> char
+    ensures zero { digit ≡ 48 → result ≡ 49 }
+    ensures other { digit ≢ 48 → result ≡ 48 }
+{
     if digit == '0' { '1' } else { '0' }
 }
 
 // Whether some read expects the digit.
-fn reads(text: &[u8], digit: u8) -> bool {
+fn reads(text: &[u8], digit: u8) -> bool
+    ensures { IsTrue result ↔ Reads digit text.now }
+{
     text.windows(2).any(|pair| match pair {
         [letter, second] => *letter == b'r' && *second == digit,
         _ => false,
@@ -107,24 +138,27 @@ pub fn march_note(
     alloc: Global,
     march: RefusedMarch<'_>,
     file: &[&[u8]],
-) -> Result<Note, AllocError> {
+) -> Result<Note, AllocError>
+    ensures march { IfOk result (λ note. note.march ≡ Some march.entry.kind) }
+    ensures mark { IfOk result (λ note. IfSome note.mark (IsIn (map (λ line. line.now) file.now))) }
+{
     let path = Path::Set(march.set as usize);
     let name = path.name(alloc)?;
     let found = found(alloc, march)?;
     let text = format!(in alloc; "in {name}, {found}")?;
-    let mut note = Note::of(march.length(), text, help(alloc, march)?);
-    note.march = Some(march.kind);
-    if let Some(spot) = find_spot(file, path, Target::Value("march")) {
-        // After the quote. With escapes, the value as a whole is marked.
-        let plain = spot.length == march.text.len().saturating_add(2);
-        let offset = if plain { march.place } else { 0 };
-        note.mark = Some(Mark {
-            line: spot.mark.line,
-            column: spot.mark.column.saturating_add(offset),
-        });
-        if !plain {
-            note.length = spot.length;
+    let help = help(alloc, march)?;
+    let (mark, length) = match find_spot(file, path, Target::Value("march")) {
+        Some(value) => {
+            let spot = march.spot_in(value);
+            (Some(spot.mark), spot.length)
         }
-    }
-    Ok(note)
+        None => (None, march.length()),
+    };
+    Ok(Note {
+        mark,
+        length,
+        march: Some(march.kind),
+        found: text,
+        help,
+    })
 }

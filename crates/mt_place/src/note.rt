@@ -1,13 +1,9 @@
 //! What is shown beside a rule's sentence.
 
-use std::alloc::{AllocError, Global};
+ghost use Rattle.std.specs.Prelude.{◌≡◌, None, string_bytes, []};
 
-/// Where something stands in a file: a line and a byte of it, both counted from 1.
-#[derive(Clone, Copy, Debug, PartialEq, Eq)]
-pub struct Mark {
-    pub line: usize,
-    pub column: usize,
-}
+use crate::mark::Mark;
+use std::alloc::{AllocError, Global};
 
 /// What was found, what would be taken, and how many bytes are marked. A refused configuration has a mark of its own if
 /// it is found again in the text; a refused march has the number of its rule.
@@ -22,7 +18,13 @@ pub struct Note {
 
 impl Note {
     /// A note that says nothing.
-    pub fn new(alloc: Global) -> Note {
+    pub fn new(alloc: Global) -> Note
+        ensures mark { result.mark ≡ None }
+        ensures length { result.length ≡ 1 }
+        ensures march { result.march ≡ None }
+        ensures found { string_bytes result.found ≡ [] }
+        ensures help { string_bytes result.help ≡ [] }
+    {
         Note {
             mark: None,
             length: 1,
@@ -33,7 +35,9 @@ impl Note {
     }
 
     /// A note on so many bytes.
-    pub fn of(length: usize, found: String, help: String) -> Note {
+    pub fn of(length: usize, found: String, help: String) -> Note
+        ensures { result ≡ record { mark = None; length = length; march = None; found = found; help = help } }
+    {
         Note {
             mark: None,
             length,
