@@ -40,10 +40,11 @@ whole all job rest text how old new tape tape' c =
 front : (wanted text more : List ℕ) → AppendsFront (Some []) (Some text) wanted → (all : List ℕ) → all ≡ wanted ++ more
     → (count : ℕ) × (count < length all) × (text ≡ take count all)
 front wanted text more a all e =
-    let short : a.count < length (wanted ++ more) = grind (arith, a.proper, length-append wanted more) in
-    ( a.count
-    , subst (λ (xs : List ℕ). a.count < length xs) (sym e) short
-    , a.front ∙ sym (take-append-le a.count wanted more (omega (arith, a.proper))) ∙ ap (take a.count) (sym e) )
+    let short : a.count < length (wanted ++ more) = grind (arith, a.proper, length-append wanted more) in (
+      a.count,
+      subst (λ (xs : List ℕ). a.count < length xs) (sym e) short,
+      a.front ∙ sym (take-append-le a.count wanted more (omega (arith, a.proper))) ∙ ap (take a.count) (sym e),
+    )
 
 cut : (all : Outcomes) (job rest text : List ℕ) (sink' : ℕ) (tape tape' : Option (List Touch))
     → Cutting all 0 0 (over job rest text tape tape') → (count : ℕ) × (count < length (all Finished job).text) × (text ≡ take count (all Finished job).text)

@@ -17,8 +17,8 @@ use explanation::explanation;
 use mt_replay::exit_number;
 use std::alloc::Global;
 
-/// Does what a form with its numbers asks for with a job, on a board without a defect. The answer is the exit number of the program: 6 if
-/// the room is too small for what is to be written, and then its front stands there.
+/// Does what a form with its numbers asks for with a job, on a board without a defect. The answer is the exit number of the
+/// program: 6 if the room is too small for what is to be written, and then its front stands there.
 #[unsafe(no_mangle)]
 pub extern "C" fn mt_page_replay(
     alloc: Global,
@@ -36,8 +36,8 @@ pub extern "C" fn mt_page_replay(
     u32::from(exit_number(&told.status))
 }
 
-/// Writes why a form refuses a job, as `explain` does. The answer is the exit number with which the form
-/// refuses it, and 0 if it takes it: then that is written.
+/// Writes why a form refuses a job, as `explain` does. The answer is the exit number with which the form refuses it, and 0 if
+/// it takes it: then that is written.
 #[unsafe(no_mangle)]
 pub extern "C" fn mt_page_explain(
     alloc: Global,

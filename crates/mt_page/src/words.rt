@@ -7,7 +7,11 @@ use itoa::Buffer;
 use std::alloc::{AllocError, Global};
 
 /// The words of a form and its numbers.
-pub(crate) fn words_of(alloc: Global, form: &[u8], numbers: &[u32]) -> Result<Vec<String>, AllocError>
+pub(crate) fn words_of(
+    alloc: Global,
+    form: &[u8],
+    numbers: &[u32],
+) -> Result<Vec<String>, AllocError>
     ensures { IfOk result (λ words. Spells words.items form.now numbers.now) }
 {
     let mut words = Vec::new(alloc);
