@@ -9,7 +9,7 @@ use crate::room::{Told, put};
 use crate::words::words_of;
 use mt_board::SimBoard;
 use mt_port::{MemSink, PlainSource};
-use mt_replay::{Status, replay};
+use mt_replay::replay;
 use std::alloc::Global;
 
 // Does what the words ask for with a job.
