@@ -3,6 +3,7 @@
 ghost use Rattle.std.specs.Prelude.{◌≤◌, ◌+◌, length};
 
 use crate::place::{Blocks, Place};
+use crate::step::{Step, step_text};
 use arrayvec::ArrayVec;
 use mt_hex::{push_bytes, push_number, push_word};
 use mt_port::{AppOp, Module};
@@ -12,12 +13,13 @@ use mt_word::Width;
 /// A line of a list: at most 128 bytes.
 pub type Text = ArrayVec<u8, 128>;
 
-/// An access as it is listed: its number in its event, where it was made, and its word.
+/// An access as it is listed: its number in its event, where it was made, its word, and its step, if it is one of a sequence.
 #[derive(Clone, Copy, Debug, PartialEq, Eq)]
 pub struct Listed {
     pub count: u32,
     pub addr: u32,
     pub word: u64,
+    pub step: Option<Step>,
 }
 
 // The text of an access, up to its word.
@@ -57,10 +59,20 @@ pub fn hold_text(of: Blocks, place: Option<Place>, attempt: u32) -> Text {
     text
 }
 
+// Ends the line of an access with its step.
+fn push_end(text: &mut Text, step: Option<Step>)
+    requires { length text.old.items ≤ 87 }
+{
+    if let Some(step) = step {
+        push_bytes(text, &step_text(step));
+    }
+    push_bytes(text, b"\n");
+}
+
 /// The text of a write.
 pub fn write_text(width: Width, access: Listed) -> Text {
     let mut text = access_text(width, b" write ", access);
-    push_bytes(&mut text, b"\n");
+    push_end(&mut text, access.step);
     text
 }
 
@@ -78,7 +90,7 @@ pub fn read_text(width: Width, module: Module, access: Listed, expected: Option<
             push_bytes(&mut text, b", differs");
         }
     }
-    push_bytes(&mut text, b"\n");
+    push_end(&mut text, access.step);
     text
 }
 
