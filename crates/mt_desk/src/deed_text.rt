@@ -10,8 +10,8 @@ use mt_port::{AppOp, Module};
 use mt_text::{Event, Line, LineText, push_line};
 use mt_word::Width;
 
-/// A line of a list: at most 128 bytes.
-pub type Text = ArrayVec<u8, 128>;
+/// A line of a list: at most 160 bytes.
+pub type Text = ArrayVec<u8, 160>;
 
 /// An access as it is listed: its number in its event, where it was made, its word, and its step, if it is one of a sequence.
 #[derive(Clone, Copy, Debug, PartialEq, Eq)]
@@ -61,7 +61,7 @@ pub fn hold_text(of: Blocks, place: Option<Place>, attempt: u32) -> Text {
 
 // Ends the line of an access with its step.
 fn push_end(text: &mut Text, step: Option<Step>)
-    requires { length text.old.items ≤ 87 }
+    requires { length text.old.items ≤ 100 }
 {
     if let Some(step) = step {
         push_bytes(text, &step_text(step));
@@ -76,6 +76,20 @@ pub fn write_text(width: Width, access: Listed) -> Text {
     text
 }
 
+// Adds the word that was expected, if one was, and a mark if the read answered another one.
+fn push_expected(text: &mut Text, width: Width, word: u64, expected: Option<u64>)
+    requires { length text.old.items ≤ 64 }
+    ensures { length text.new.items ≤ 100 }
+{
+    if let Some(wanted) = expected {
+        push_bytes(text, b", expected ");
+        push_word(text, width, wanted);
+        if wanted != word {
+            push_bytes(text, b", differs");
+        }
+    }
+}
+
 /// The text of a read in a memory, with the word that was expected, if one was, and a mark where it is another one.
 pub fn read_text(width: Width, module: Module, access: Listed, expected: Option<u64>) -> Text {
     let name: &[u8] = match module {
@@ -83,13 +97,7 @@ pub fn read_text(width: Width, module: Module, access: Listed, expected: Option<
         Module::FlsTst => b" read flash ",
     };
     let mut text = access_text(width, name, access);
-    if let Some(word) = expected {
-        push_bytes(&mut text, b", expected ");
-        push_word(&mut text, width, word);
-        if word != access.word {
-            push_bytes(&mut text, b", differs");
-        }
-    }
+    push_expected(&mut text, width, access.word, expected);
     push_end(&mut text, access.step);
     text
 }
