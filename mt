@@ -8,6 +8,7 @@ set -u
 top=$(CDPATH='' cd -- "$(dirname -- "$0")" && pwd -P) || exit 1
 . "$top/tools/program.sh"
 . "$top/tools/build.sh"
+. "$top/tools/page.sh"
 . "$top/tools/help.sh"
 unproved=
 
@@ -104,6 +105,8 @@ main() {
     mt_*,--help | mt_*,-h) print_form_help "$form" && exit ;;
     mt_cli,*) run_form "$@" ;;
     mt_desk,*) use_program mt_desk && become_program "$@" ;;
+    mt_page,) write_page ;;
+    mt_page,*) say "mt: usage: $(synopsis_of "$form")" && refuse_words "$@" ;;
     esac
     nearest=$(nearest_form "$form")
     said=

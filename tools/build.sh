@@ -44,15 +44,20 @@ outcome() {
     fi
 }
 
-# Proves and builds one crate with so many jobs. rt builds a program by running it; without words it ends with 2.
+# Proves and builds the program with $1 jobs. rt builds it by running it; without words it ends with 2.
+build_program() {
+    rt run "$name_of_program" --jobs "$1" >/dev/null
+    [ $? = 2 ] && [ -x "$program" ]
+}
+
+# Proves and builds one crate with so many jobs.
 build_crate() (
     cd "$top/crates/$1" || exit 1
-    if [ "$1" != "$name_of_program" ]; then
+    if [ "$1" = "$name_of_program" ]; then
+        "$build_own" "$2" >"$log" 2>&1 </dev/null
+    else
         rt lib "$1" --jobs "$2" >"$log" 2>&1 </dev/null
-        exit
     fi
-    rt run "$1" --jobs "$2" >/dev/null 2>"$log" </dev/null
-    [ $? = 2 ] && [ -x "$program" ]
 )
 
 # How far the building is: crates proved, of all, after so many seconds; and the crate that comes next.

@@ -14,6 +14,7 @@ soak|mt_cli|NUMBER||replays the generated job of that number, and writes its sum
 accesses|mt_desk|[--line N] FILE||replays a job, and writes its trace with the accesses of each line, or of line N|./mt accesses jobs/first.job
 explain|mt_desk|[FORM] FILE||explains in words why a file is refused|./mt explain jobs/refused-address.job
 generate|mt_desk|FILE FOLDER||writes a job's configuration as tables in C into the folder|./mt generate jobs/first.job unit
+page|mt_page|||writes a page that replays jobs in a browser|./mt page > mt.html
 picture|mt_desk|[--lines A-B] FILE||replays a job, and writes a page with pictures of its memory, its events and its trace|./mt picture jobs/urgent.job
 new|mt_desk|FILE||writes a job to begin with, with a comment on each key|./mt new my.job
 rules|mt_desk|||lists the rules by which an input may be refused|./mt rules

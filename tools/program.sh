@@ -7,6 +7,9 @@ use_program() {
     name_of_program=$1
     crate=$top/crates/$1
     program=$crate/out/$1
+    # What else it is made of, beside its crates, and what builds it when they are built.
+    further_sources=
+    build_own=build_program
     # The time of this file is that at which the building of the program began. Its lines tell the file of the
     # command `rt` from another, and what `rt version` says.
     stamp=$crate/out/mt.built
@@ -15,7 +18,7 @@ use_program() {
 # The crates that the program stands on, lowest first, and then its own.
 crates() {
     awk -F: -v program="$name_of_program" '
-        !/^#/ && NF > 1 { name[++count] = $1; below[$1] = $2 }
+        !/^#/ && NF > 1 { sub(/ .*/, "", $1); name[++count] = $1; below[$1] = $2 }
         END {
             split(below[program], list, " ")
             for (i in list) needed[list[i]] = 1
@@ -27,7 +30,8 @@ crates() {
 # Whether none of the program's files was changed or added since it was built, and none of their folders has lost one.
 sources_are_same() (
     cd "$top" || exit 1
-    set -- crates.txt
+    # shellcheck disable=SC2086
+    set -- crates.txt $further_sources
     for name in $(crates); do
         for folder in "crates/$name/src" "crates/$name/specs" "crates/$name/proofs"; do
             [ ! -d "$folder" ] || set -- "$@" "$folder"
@@ -53,7 +57,7 @@ toolchain_is_same() {
 }
 
 is_fresh() {
-    [ -x "$program" ] && [ -s "$stamp" ] && sources_are_same && toolchain_is_same
+    [ -s "$program" ] && [ -s "$stamp" ] && sources_are_same && toolchain_is_same
 }
 
 # Notes that the program is made of the sources as they were at the time of the file $1, which is taken away.

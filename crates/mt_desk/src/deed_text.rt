@@ -3,21 +3,23 @@
 ghost use Rattle.std.specs.Prelude.{◌≤◌, ◌+◌, length};
 
 use crate::place::{Blocks, Place};
+use crate::step::{Step, step_text};
 use arrayvec::ArrayVec;
 use mt_hex::{push_bytes, push_number, push_word};
 use mt_port::{AppOp, Module};
 use mt_text::{Event, Line, LineText, push_line};
 use mt_word::Width;
 
-/// A line of a list: at most 128 bytes.
-pub type Text = ArrayVec<u8, 128>;
+/// A line of a list: at most 160 bytes.
+pub type Text = ArrayVec<u8, 160>;
 
-/// An access as it is listed: its number in its event, where it was made, and its word.
+/// An access as it is listed: its number in its event, where it was made, its word, and its step, if it is one of a sequence.
 #[derive(Clone, Copy, Debug, PartialEq, Eq)]
 pub struct Listed {
     pub count: u32,
     pub addr: u32,
     pub word: u64,
+    pub step: Option<Step>,
 }
 
 // The text of an access, up to its word.
@@ -57,11 +59,35 @@ pub fn hold_text(of: Blocks, place: Option<Place>, attempt: u32) -> Text {
     text
 }
 
+// Ends the line of an access with its step.
+fn push_end(text: &mut Text, step: Option<Step>)
+    requires { length text.old.items ≤ 100 }
+{
+    if let Some(step) = step {
+        push_bytes(text, &step_text(step));
+    }
+    push_bytes(text, b"\n");
+}
+
 /// The text of a write.
 pub fn write_text(width: Width, access: Listed) -> Text {
     let mut text = access_text(width, b" write ", access);
-    push_bytes(&mut text, b"\n");
+    push_end(&mut text, access.step);
     text
+}
+
+// Adds the word that was expected, if one was, and a mark if the read answered another one.
+fn push_expected(text: &mut Text, width: Width, word: u64, expected: Option<u64>)
+    requires { length text.old.items ≤ 64 }
+    ensures { length text.new.items ≤ 100 }
+{
+    if let Some(wanted) = expected {
+        push_bytes(text, b", expected ");
+        push_word(text, width, wanted);
+        if wanted != word {
+            push_bytes(text, b", differs");
+        }
+    }
 }
 
 /// The text of a read in a memory, with the word that was expected, if one was, and a mark where it is another one.
@@ -71,14 +97,8 @@ pub fn read_text(width: Width, module: Module, access: Listed, expected: Option<
         Module::FlsTst => b" read flash ",
     };
     let mut text = access_text(width, name, access);
-    if let Some(word) = expected {
-        push_bytes(&mut text, b", expected ");
-        push_word(&mut text, width, word);
-        if word != access.word {
-            push_bytes(&mut text, b", differs");
-        }
-    }
-    push_bytes(&mut text, b"\n");
+    push_expected(&mut text, width, access.word, expected);
+    push_end(&mut text, access.step);
     text
 }
 

@@ -114,7 +114,7 @@ impl<'a, W: Write + Drop> Listing<'a, W> {
     fn list_next(&mut self) -> Result<()> {
         if let Some((deed, later)) = self.deeds.split_first() {
             self.deeds = later;
-            let seen = self.sight.see(*deed, later.first());
+            let seen = self.sight.see(*deed, later);
             self.list_seen(seen)?;
         }
         Ok(())

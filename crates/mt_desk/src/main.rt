@@ -14,6 +14,7 @@ mod picture;
 mod place;
 mod rules;
 mod sight;
+mod step;
 mod task;
 
 use anyhow::Result;

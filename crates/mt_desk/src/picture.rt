@@ -102,7 +102,7 @@ impl<'a> Page<'a> {
             return Ok(true);
         };
         self.deeds = later;
-        let seen = self.sight.see(*deed, later.first());
+        let seen = self.sight.see(*deed, later);
         if let Seen::Hold { .. } = seen {
             *of = tested_under(seen);
         }
@@ -196,7 +196,7 @@ impl<'a> Page<'a> {
             && let Some((deed, later)) = self.deeds.split_first()
         {
             self.deeds = later;
-            self.sight.see(*deed, later.first());
+            self.sight.see(*deed, later);
         }
         Ok(false)
     }

@@ -2,6 +2,7 @@
 
 use crate::deed_text::Listed;
 use crate::place::{Blocks, Place, place_of};
+use crate::step::{Attempt, Step, step_of};
 use arrayvec::ArrayVec;
 use mt_blocks::{FlsConfig, RamConfig};
 use mt_board::Deed;
@@ -48,12 +49,28 @@ pub struct Sight<'a> {
     // The slice of the latest hold of this event, and how many attempts at it were made.
     place: Option<Place>,
     attempt: u32,
+    // What is known of the attempt that is made under this hold, and how many accesses came before it.
+    made: Option<Attempt>,
+    before: u32,
     // The test accesses of this event.
     count: u32,
     // The words that the test wrote under this hold, with their addresses.
     written: ArrayVec<(u32, u64), MOST_WORDS>,
     // A word of the flash whose copy is read next.
     original: Option<u64>,
+}
+
+// How many accesses are made up to the next release, if it is there and nothing else is done before it.
+fn accesses_under_hold(deeds: &[Deed]) -> Option<u32> {
+    let mut count: u32 = 0;
+    for deed in deeds {
+        match deed {
+            Deed::Read { .. } | Deed::Write { .. } => count = count.saturating_add(1),
+            Deed::Release => return Some(count),
+            _ => return None,
+        }
+    }
+    None
 }
 
 impl<'a> Sight<'a> {
@@ -66,6 +83,8 @@ impl<'a> Sight<'a> {
             event: Event::Nothing,
             place: None,
             attempt: 0,
+            made: None,
+            before: 0,
             count: 0,
             written: ArrayVec::new(),
             original: None,
@@ -121,13 +140,33 @@ impl<'a> Sight<'a> {
         }
     }
 
+    // The step of the latest access, if it is one of a sequence of RamTst.
+    fn step(&self) -> Option<Step> {
+        let set = self.ram.sets.as_slice().get(self.set)?;
+        let index = self.count.saturating_sub(self.before).saturating_sub(1);
+        step_of(&set.alg, self.made?, index)
+    }
+
     fn listed(&mut self, addr: u32, word: u64) -> Listed {
         self.count = self.count.saturating_add(1);
         Listed {
             count: self.count,
             addr,
             word,
+            step: self.step(),
         }
+    }
+
+    // The attempt at a slice of RamTst whose deeds these are, if all of them are there.
+    fn attempt_at(&self, place: Place, deeds: &[Deed]) -> Option<Attempt> {
+        let set = self.ram.sets.as_slice().get(self.set)?;
+        let block = set.blocks.as_slice().get(place.block as usize)?;
+        Some(Attempt {
+            first: place.first,
+            words: place.last.saturating_sub(place.first).saturating_add(1),
+            policy: block.policy,
+            accesses: accesses_under_hold(deeds)?,
+        })
     }
 
     // The slice of an address, and the blocks that it is of.
@@ -153,10 +192,10 @@ impl<'a> Sight<'a> {
     }
 
     // A hold is for the slice in which the first access under it lies.
-    fn hold(&mut self, next: Option<&Deed>) -> Seen {
+    fn hold(&mut self, later: &[Deed]) -> Seen {
         self.written.clear();
         self.original = None;
-        let (of, place) = match next {
+        let (of, place) = match later.first() {
             Some(
                 Deed::Read { addr, .. } | Deed::Write { addr, .. } | Deed::FlashRead { addr, .. },
             ) => self.place_at(*addr),
@@ -168,6 +207,11 @@ impl<'a> Sight<'a> {
             1
         };
         self.place = place;
+        self.before = self.count;
+        self.made = match (of, place) {
+            (Blocks::Ram, Some(place)) => self.attempt_at(place, later),
+            _ => None,
+        };
         Seen::Hold {
             of,
             place,
@@ -205,8 +249,8 @@ impl<'a> Sight<'a> {
         }
     }
 
-    /// What a deed is, with the deed after it.
-    pub fn see(&mut self, deed: Deed, next: Option<&Deed>) -> Seen {
+    /// What a deed is, with the deeds after it.
+    pub fn see(&mut self, deed: Deed, later: &[Deed]) -> Seen {
         match deed {
             Deed::PowerUp { .. } | Deed::EndEvent => Seen::Other,
             Deed::BeginEvent { .. } => {
@@ -218,7 +262,7 @@ impl<'a> Sight<'a> {
                 self.count = count;
                 Seen::Other
             }
-            Deed::Hold => self.hold(next),
+            Deed::Hold => self.hold(later),
             Deed::Release => Seen::Release,
             Deed::Read { addr, word } => self.read(addr, word),
             Deed::Write { addr, word } => self.write(addr, word),
