@@ -46,10 +46,10 @@ front wanted text more a all e =
       a.front ∙ sym (take-append-le a.count wanted more (omega (arith, a.proper))) ∙ ap (take a.count) (sym e),
     )
 
-cut : (all : Outcomes) (job rest text : List ℕ) (sink' : ℕ) (tape tape' : Option (List Touch))
-    → Cutting all 0 0 (over job rest text tape tape') → (count : ℕ) × (count < length (all Finished job).text) × (text ≡ take count (all Finished job).text)
-cut all job rest text sink' tape tape' c = elim c.defined [
-  | inl (same, more, e) ↦ front c.text text more c.written _ e
+cut : (all : Outcomes) (job rest text : List ℕ) (old new : Board) (tape tape' : Option (List Touch))
+    → Cutting all 0 0 old new (over job rest text tape tape') → (count : ℕ) × (count < length (all Finished job).text) × (text ≡ take count (all Finished job).text)
+cut all job rest text old new tape tape' c = elim c.defined [
+  | inl (same, e) ↦ front c.outcome.text text [] c.written _ (ap (λ (o : Outcome). o.text) e ∙ sym (append-nil c.outcome.text))
   | inr (rose, _, _, _) ↦ never rose
 ]
 
@@ -61,7 +61,7 @@ job_gives all (status.BadConfig code) job rest text sink sink' old new tape tape
 job_gives all (status.BadScript line code place) job rest text sink sink' old new tape tape' g caused = whole all job rest text _ old new tape tape' g
 job_gives all (status.Differs line) job rest text sink sink' old new tape tape' g caused = whole all job rest text _ old new tape tape' g
 job_gives all status.ReadFault job rest text sink sink' old new tape tape' g caused = never caused.0
-job_gives all status.WriteFault job rest text sink sink' old new tape tape' g caused = cut all job rest text sink' tape tape' g
+job_gives all status.WriteFault job rest text sink sink' old new tape tape' g caused = cut all job rest text old new tape tape' g
 job_gives all status.NoMemory job rest text sink sink' old new tape tape' g caused = Some-inj g.0
 job_gives all status.Usage job rest text sink sink' old new tape tape' g caused = absurd g
 
